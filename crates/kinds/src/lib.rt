@@ -1,0 +1,35 @@
+// The kinds of number that the rounds and the ledger speak of, the messages of a bench, and a step as a caller hands it in.
+// specs/Stand.antt says which message and which step of `published` each stands for. There are no functions here: a number is
+// checked where it is used, so each kind holds any u32.
+
+// A bench or a sender; those of a run are 1 to 16.
+pub struct BenchNo(pub u32);
+
+// A slot, which is also what a bench proposes and decides.
+pub struct SlotNo(pub u32);
+
+// A round; the first is 1.
+pub struct RoundNo(pub u32);
+
+// What a bench says in a round. Bench i is bit i - 1 of a world.
+pub struct RoundMessage {
+    pub round: RoundNo,
+    pub value: SlotNo,
+    pub world: u32,
+}
+
+pub enum Message {
+    Round(RoundMessage),
+    Out,
+}
+
+// Start has bench, value and world; Arrive and Notice have bench and from.
+pub enum Step {
+    Start(BenchNo, SlotNo, u32),
+    Abstain(BenchNo),
+    Leave(BenchNo),
+    Fail(BenchNo),
+    Turn(BenchNo),
+    Arrive(BenchNo, BenchNo),
+    Notice(BenchNo, BenchNo),
+}

@@ -1,0 +1,148 @@
+-- Locality: what a bench is, and so its answer to turn, depends on the steps done at that bench and the messages it took, and on nothing else.
+-- A history is the list of what befell one bench; replaying it from a new bench gives the bench that the run has. Assumes nothing.
+use mathlib.Core.Path.{_≡_, refl, sym, ap, _∙_}
+use Prim.Native.Nat.{ℕ, zero, suc}
+use mathlib.Core.Bool.{Bool, true, false, cond, _&&_}
+use mathlib.Core.List.{List, [], _∷_, _++_}
+use native.Mathlib.Omega.{arith}
+use lib.Dec.{eqb}
+use borrow.Author.Tests.{eqb-true, eqb-false, eq-eqb, ne-eqb}
+use Rattle.published.specs.Rounds.{Run, Bench, Message, abstained, failed, put, newRun, inState, entering, parting, leaving, turned, taking, takingFirst, noticing, waiting, isBench, isRunning, settled, decides, allows, Limit, Step, start, abstain, leave, fail, turn, arrive, notice, Check, needs, checks, after, Answer, refuse, done, judge, step, runFrom}
+use Rattle.published.proofs.Tests.{clash, split}
+use Rattle.published.proofs.Updates.{put-same, put-other, put-ind}
+use Rattle.published.proofs.Checks.{Fails, Holds, Verdict, against, for, judged, refusal-range}
+
+-- ---- what befalls a bench
+
+pub data Event : Type 0 where
+  started : ℕ → ℕ → Event
+  abstains leaves fails turns : Event
+  took : ℕ → Message → Event
+  noticed : ℕ → Event
+
+-- what it makes of bench b: a function of the bench alone
+unfoldable pub befalls : ℕ → ℕ → Bench → Event → Bench
+befalls n b x (started v w) = entering 1 v w x
+befalls n b x abstains = parting abstained x
+befalls n b x leaves = leaving x
+befalls n b x fails = inState failed x
+befalls n b x turns = turned n b x
+befalls n b x (took f m) = taking f m x
+befalls n b x (noticed f) = noticing f x
+
+unfoldable pub replay : ℕ → ℕ → Bench → List Event → Bench
+replay n b x [] = x
+replay n b x (e ∷ l) = replay n b (befalls n b x e) l
+
+-- ---- the history of a bench in a list of steps
+
+unfoldable pub benchOf : Step → ℕ
+benchOf (start b v w) = b
+benchOf (abstain b) = b
+benchOf (leave b) = b
+benchOf (fail b) = b
+benchOf (turn b) = b
+benchOf (arrive b f) = b
+benchOf (notice b f) = b
+
+-- the first message is taken, if there is one
+unfoldable pub tookFirst : ℕ → List Message → List Event
+tookFirst f [] = []
+tookFirst f (m ∷ l) = took f m ∷ []
+
+unfoldable pub eventsOf : Run → Step → List Event
+eventsOf s (start b v w) = started v w ∷ []
+eventsOf s (abstain b) = abstains ∷ []
+eventsOf s (leave b) = leaves ∷ []
+eventsOf s (fail b) = fails ∷ []
+eventsOf s (turn b) = turns ∷ []
+eventsOf s (arrive b f) = tookFirst f (waiting s b f)
+eventsOf s (notice b f) = noticed f ∷ []
+
+-- what a step brings to bench b: something only where it is done, and done at b
+unfoldable pub brings : ℕ → Limit → Run → ℕ → Step → List Event
+brings n lim s b a = cond (eqb (step n lim s a .number) 0 && eqb (benchOf a) b) (eventsOf s a) []
+
+unfoldable pub history : ℕ → Limit → Run → ℕ → List Step → List Event
+history n lim s b [] = []
+history n lim s b (a ∷ l) = brings n lim s b a ++ history n lim (step n lim s a .run) b l
+
+-- ---- the bench is what its history makes of it
+
+replay-append : (n b : ℕ) (x : Bench) (l m : List Event) → replay n b x (l ++ m) ≡ replay n b (replay n b x l) m
+unfolding replay
+replay-append n b x [] m = refl
+replay-append n b x (e ∷ l) m = replay-append n b (befalls n b x e) l m
+
+took-first : (n b f : ℕ) (x : Bench) (l : List Message) → takingFirst f l x ≡ replay n b x (tookFirst f l)
+unfolding takingFirst tookFirst replay befalls
+took-first n b f x [] = refl
+took-first n b f x (m ∷ l) = refl
+
+after-here : (n : ℕ) (s : Run) (a : Step) → after n s a (benchOf a) ≡ replay n (benchOf a) (s (benchOf a)) (eventsOf s a)
+unfolding after benchOf eventsOf replay befalls
+after-here n s (start b v w) = put-same s b _
+after-here n s (abstain b) = put-same s b _
+after-here n s (leave b) = put-same s b _
+after-here n s (fail b) = put-same s b _
+after-here n s (turn b) = put-same s b _
+after-here n s (arrive b f) = put-same s b _ ∙ took-first n b f (s b) (waiting s b f)
+after-here n s (notice b f) = put-same s b _
+
+after-there : (n : ℕ) (s : Run) (a : Step) (b : ℕ) → (b ≡ benchOf a → ⊥) → after n s a b ≡ s b
+unfolding after benchOf
+after-there n s (start c v w) b ne = put-other s c _ b ne
+after-there n s (abstain c) b ne = put-other s c _ b ne
+after-there n s (leave c) b ne = put-other s c _ b ne
+after-there n s (fail c) b ne = put-other s c _ b ne
+after-there n s (turn c) b ne = put-other s c _ b ne
+after-there n s (arrive c f) b ne = put-other s c _ b ne
+after-there n s (notice c f) b ne = put-other s c _ b ne
+
+step-history : (n : ℕ) (lim : Limit) (s : Run) (b : ℕ) (a : Step) → step n lim s a .run b ≡ replay n b (s b) (brings n lim s b a)
+unfolding brings step
+step-history n lim s b a = go (judge s (checks n lim s a) (after n s a)) (judged s (after n s a) (checks n lim s a))
+  where
+    go : (r : Answer) → Verdict s (after n s a) (checks n lim s a) r → r .run b ≡ replay n b (s b) (cond (eqb (r .number) 0 && eqb (benchOf a) b) (eventsOf s a) [])
+    go r (against k f) = unfold refuse replay in rw (ne-eqb k 0 (omega (arith, refusal-range n lim s a k f))) refl
+    go r (for h) = unfold done replay in split (eqb (benchOf a) b)
+        (λ e. rw e (let z = eqb-true (benchOf a) b e in rw (← z) (after-here n s a)))
+        (λ e. rw e (after-there n s a b (λ z. eqb-false (benchOf a) b e (sym z))))
+
+pub bench-history : (n : ℕ) (lim : Limit) (s : Run) (b : ℕ) (l : List Step) → runFrom n lim s l b ≡ replay n b (s b) (history n lim s b l)
+unfolding history runFrom replay
+bench-history n lim s b [] = refl
+bench-history n lim s b (a ∷ l) =
+    bench-history n lim (step n lim s a .run) b l
+    ∙ ap (λ x. replay n b x (history n lim (step n lim s a .run) b l)) (step-history n lim s b a)
+    ∙ sym (replay-append n b (s b) (brings n lim s b a) (history n lim (step n lim s a .run) b l))
+
+-- ---- turn looks at the bench alone
+
+judge-number : (s s′ next next′ : Run) (l : List Check) → judge s l next .number ≡ judge s′ l next′ .number
+unfolding judge refuse done
+judge-number s s′ next next′ [] = refl
+judge-number s s′ next next′ (needs k true ∷ l) = judge-number s s′ next next′ l
+judge-number s s′ next next′ (needs k false ∷ l) = refl
+
+-- the number that turn answers, by the bench alone
+turn-checks : (n : ℕ) (lim : Limit) (s s′ : Run) (b : ℕ) → s b ≡ s′ b → checks n lim s (turn b) ≡ checks n lim s′ (turn b)
+unfolding checks
+turn-checks n lim s s′ b e = rw e refl
+
+pub turn-number : (n : ℕ) (lim : Limit) (s s′ : Run) (b : ℕ) → s b ≡ s′ b → step n lim s (turn b) .number ≡ step n lim s′ (turn b) .number
+unfolding step
+turn-number n lim s s′ b e = rw (turn-checks n lim s s′ b e) (judge-number s s′ (after n s (turn b)) (after n s′ (turn b)) (checks n lim s′ (turn b)))
+
+judge-at : (b : ℕ) (s s′ next next′ : Run) (l : List Check) → s b ≡ s′ b → next b ≡ next′ b → judge s l next .run b ≡ judge s′ l next′ .run b
+unfolding judge refuse done
+judge-at b s s′ next next′ [] e f = f
+judge-at b s s′ next next′ (needs k true ∷ l) e f = judge-at b s s′ next next′ l e f
+judge-at b s s′ next next′ (needs k false ∷ l) e f = e
+
+-- and what it becomes
+pub turn-becomes : (n : ℕ) (lim : Limit) (s s′ : Run) (b : ℕ) → s b ≡ s′ b → step n lim s (turn b) .run b ≡ step n lim s′ (turn b) .run b
+unfolding step after
+turn-becomes n lim s s′ b e = rw (turn-checks n lim s s′ b e)
+    (judge-at b s s′ (put s b (turned n b (s b))) (put s′ b (turned n b (s′ b))) (checks n lim s′ (turn b)) e
+    (put-same s b (turned n b (s b)) ∙ ap (λ x. turned n b x) e ∙ sym (put-same s′ b (turned n b (s′ b)))))

@@ -1,0 +1,110 @@
+-- Laws of lists of messages: what is found in them, what stands behind OUT, what was taken of what was sent. Assumes nothing.
+use mathlib.Core.Path.{_≡_, refl, sym, ap, _∙_}
+use Prim.Native.Nat.{ℕ}
+use mathlib.Core.Bool.{Bool, true, false, _||_, true≢false, false≢true}
+use mathlib.Core.List.{List, [], _∷_, _++_, append-assoc, append-nil}
+use lib.ListN.{length, drop}
+use lib.Dec.{eqb}
+use borrow.Author.Tests.{eqb-true}
+use Rattle.published.specs.Rounds.{Message, Round, Out, Found, absent, found, find, hasOut}
+use Rattle.published.proofs.Tests.{clash, split}
+
+-- ---- the round r message, and OUT
+
+pub never : {A : Type 0} (k : Found) (v w : ℕ) → k ≡ absent → k ≡ found v w → A
+never k v w p q = clash (cc)
+
+pub find-found : (r : ℕ) (p q : List Message) (v w : ℕ) → find r p ≡ found v w → find r (p ++ q) ≡ found v w
+unfolding find
+find-found r [] q v w e = cc
+find-found r (Out ∷ p) q v w e = find-found r p q v w e
+find-found r (Round k u y ∷ p) q v w e = split (eqb k r)
+    (λ c. cc)
+    (λ c. let e′ : find r p ≡ found v w = cc in let ih = find-found r p q v w e′ in cc)
+
+pub find-absent : (r : ℕ) (p q : List Message) → find r p ≡ absent → find r (p ++ q) ≡ find r q
+unfolding find
+find-absent r [] q e = refl
+find-absent r (Out ∷ p) q e = find-absent r p q e
+find-absent r (Round k u y ∷ p) q e = split (eqb k r)
+    (λ c. cc)
+    (λ c. let e′ : find r p ≡ absent = cc in let ih = find-absent r p q e′ in cc)
+
+pub find-one : (r q v₀ w₀ v w : ℕ) → find r (Round q v₀ w₀ ∷ []) ≡ found v w → (r ≡ q) × (v ≡ v₀) × (w ≡ w₀)
+unfolding find
+find-one r q v₀ w₀ v w e = split (eqb q r)
+    (λ c. let p = eqb-true q r c in (sym p, (cc), (cc)))
+    (λ c. never absent v w refl (cc))
+
+pub find-before-out : (q : ℕ) (l : List Message) (u y : ℕ) → find q (l ++ (Out ∷ [])) ≡ found u y → find q l ≡ found u y
+unfolding find
+find-before-out q l u y e = go (find q l) refl
+  where
+    go : (k : Found) → find q l ≡ k → find q l ≡ found u y
+    go absent z = let a = find-absent q l (Out ∷ []) z in cc
+    go (found u′ y′) z = let a = find-found q l (Out ∷ []) u′ y′ z in cc
+
+pub hasOut-append : (p q : List Message) → hasOut (p ++ q) ≡ (hasOut p || hasOut q)
+unfolding hasOut
+hasOut-append [] q = refl
+hasOut-append (Out ∷ p) q = refl
+hasOut-append (Round k u y ∷ p) q = hasOut-append p q
+
+pub hasOut-last : (l : List Message) → hasOut (l ++ (Out ∷ [])) ≡ true
+unfolding hasOut
+hasOut-last [] = refl
+hasOut-last (Out ∷ l) = refl
+hasOut-last (Round q v w ∷ l) = hasOut-last l
+
+-- ---- nothing stands behind OUT
+
+pub tidy : List Message → Bool
+tidy [] = true
+tidy (Out ∷ []) = true
+tidy (Out ∷ m ∷ l) = false
+tidy (Round k u y ∷ l) = tidy l
+
+pub tidy-nil : tidy [] ≡ true
+unfolding tidy
+tidy-nil = refl
+
+pub tidy-snoc : (l : List Message) (m : Message) → hasOut l ≡ false → tidy (l ++ (m ∷ [])) ≡ true
+unfolding tidy hasOut
+tidy-snoc [] Out e = refl
+tidy-snoc [] (Round k u y) e = refl
+tidy-snoc (Out ∷ l) m e = absurd (true≢false e)
+tidy-snoc (Round k u y ∷ l) m e = tidy-snoc l m e
+
+tidy-rest : (p q : List Message) → tidy (p ++ q) ≡ true → hasOut p ≡ true → q ≡ []
+unfolding tidy hasOut
+tidy-rest [] q t e = absurd (false≢true e)
+tidy-rest (Out ∷ []) [] t e = refl
+tidy-rest (Out ∷ []) (m ∷ q) t e = absurd (false≢true t)
+tidy-rest (Out ∷ m ∷ p) q t e = absurd (false≢true t)
+tidy-rest (Round k u y ∷ p) q t e = tidy-rest p q t e
+
+-- ---- what was taken is the first part of what was sent
+
+-- the messages p are the first of l
+abbrev pub Pre : List Message → List Message → Type 0
+Pre p l = l ≡ p ++ drop (length p) l
+
+-- where OUT is among the messages taken, they are all that was sent
+pub all-taken : (l p q : List Message) → l ≡ p ++ q → tidy l ≡ true → hasOut p ≡ true → l ≡ p
+all-taken l p q e t h = e ∙ ap (λ z. p ++ z) (tidy-rest p q (rw e at t) h) ∙ append-nil p
+
+pub drop-length : (p q : List Message) → drop (length p) (p ++ q) ≡ q
+drop-length [] q = refl
+drop-length (m ∷ p) q = drop-length p q
+
+-- the next message is taken
+pub pre-next : (l p : List Message) (m : Message) (q : List Message) → Pre p l → drop (length p) l ≡ m ∷ q → Pre (p ++ (m ∷ [])) l
+pre-next l p m q e d =
+    let e′ : l ≡ (p ++ (m ∷ [])) ++ q = e ∙ ap (λ z. p ++ z) d ∙ sym (append-assoc p (m ∷ []) q) in
+    e′ ∙ ap (λ z. (p ++ (m ∷ [])) ++ z) (sym (ap (λ z. drop (length (p ++ (m ∷ []))) z) e′ ∙ drop-length (p ++ (m ∷ [])) q))
+
+-- more is sent
+pub pre-more : (l p m : List Message) → Pre p l → Pre p (l ++ m)
+pre-more l p m e =
+    let e′ : l ++ m ≡ p ++ (drop (length p) l ++ m) = ap (λ z. z ++ m) e ∙ append-assoc p (drop (length p) l) m in
+    e′ ∙ ap (λ z. p ++ z) (sym (ap (λ z. drop (length p) z) e′ ∙ drop-length p (drop (length p) l ++ m)))

@@ -1,0 +1,98 @@
+-- `Reached n s`: what holds of every run that steps lead to, as a statement about the run itself. It is shut: other crates know it by its laws alone.
+-- The new run has it, every step keeps it, and from it follow demand 3 and what else is known of reached runs. Assumes nothing.
+use mathlib.Core.Path.{_≡_}
+use Prim.Native.Nat.{ℕ, zero, suc, _≤_}
+use mathlib.Core.Bool.{true}
+use mathlib.Core.List.{List, [], _∷_}
+use native.Mathlib.Omega.{arith}
+use Rattle.published.specs.Rounds.{Run, running, Decision, chosen, member, Limit, Step, Answer, refuse, done, step, runFrom, newRun}
+use Rattle.published.proofs.Worlds.{In}
+use Rattle.published.proofs.Moves.{Outcome, refused, moved, step-outcome}
+use Rattle.published.proofs.Invariant.{M, Base, positive}
+use Rattle.published.proofs.Decisions.{Inv, cert-now, inv-move, inv-new}
+use Rattle.published.proofs.Window as window
+
+pub Reached : ℕ → Run → Type 0
+Reached n s = Inv n s
+
+-- ---- new runs have it, steps keep it
+
+pub reached-new : (n : ℕ) → Reached n newRun
+unfolding Reached
+reached-new n = inv-new n
+
+reached-outcome : (n : ℕ) (lim : Limit) (s : Run) → Reached n s → (a : Step) (r : Answer) → Outcome n lim s a r → Reached n (r .run)
+unfolding Reached refuse done
+reached-outcome n lim s h a r (refused k f) = h
+reached-outcome n lim s h a r (moved b x m) = inv-move n lim s h a b x m
+
+pub reached-step : (n : ℕ) (lim : Limit) (s : Run) → Reached n s → (a : Step) → Reached n (step n lim s a .run)
+reached-step n lim s h a = reached-outcome n lim s h a (step n lim s a) (step-outcome n lim s a)
+
+pub reached-from : (n : ℕ) (lim : Limit) (s : Run) → Reached n s → (l : List Step) → Reached n (runFrom n lim s l)
+unfolding runFrom
+reached-from n lim s h [] = h
+reached-from n lim s h (a ∷ l) = reached-from n lim (step n lim s a .run) (reached-step n lim s h a) l
+
+pub reached-run : (n : ℕ) (lim : Limit) (l : List Step) → Reached n (runFrom n lim newRun l)
+reached-run n lim l = reached-from n lim newRun (reached-new n) l
+
+-- ---- what follows
+
+-- the value v is the proposal of some bench
+pub record Proposed (s : Run) (v : ℕ) : Type 0 where
+  pub by : ℕ
+  pub by-world : ℕ
+  pub by-message : M s by 1 v by-world
+
+-- bench i has proposed a value not below d
+pub record Bounded (s : Run) (i d : ℕ) : Type 0 where
+  pub own-value : ℕ
+  pub own-world : ℕ
+  pub own-message : M s i 1 own-value own-world
+  pub not-above : d ≤ own-value
+
+proposed-message : (n : ℕ) (s : Run) → Base n s → (i r v w : ℕ) → M s i r v w → Proposed s v
+proposed-message n s h i zero v w m = positive n s h i v w m
+proposed-message n s h i (suc zero) v w m = record { by = i; by-world = w; by-message = m }
+proposed-message n s h i (suc (suc r)) v w m = let o = h .came i r v w m .origin in proposed-message n s h (o .from) (suc r) v (o .from-world) (o .from-msg)
+
+bounded-message : (n : ℕ) (s : Run) → Base n s → (i r v w : ℕ) → M s i r v w → Bounded s i v
+bounded-message n s h i zero v w m = positive n s h i v w m
+bounded-message n s h i (suc zero) v w m = record { own-value = v; own-world = w; own-message = m; not-above = omega arith }
+bounded-message n s h i (suc (suc r)) v w m =
+    let c = h .came i r v w m in let o = bounded-message n s h i (suc r) (c .value₀) (c .world₀) (c .before) in
+    record { own-value = o .own-value; own-world = o .own-world; own-message = o .own-message; not-above = omega (arith, o .not-above, c .le) }
+
+module _ (n : ℕ) (s : Run) (h : Reached n s) where
+  -- the whole invariant, for theorems that need more of it
+  pub reached-base : Base n s
+  unfolding Reached
+  reached-base = h .base
+
+  pub decisions-agree : (i j d e : ℕ) → s i .decision ≡ chosen d → s j .decision ≡ chosen e → d ≡ e
+  unfolding Reached
+  decisions-agree i j d e p q = h .agree i j d e p q
+
+  pub decision-proposed : (i d : ℕ) → s i .decision ≡ chosen d → Proposed s d
+  unfolding Reached
+  decision-proposed i d e = let c = h .cert i d e in proposed-message n s (h .base) i (c .r) d (c .w) (c .said-it)
+
+  pub decision-bounded : (i d : ℕ) → s i .decision ≡ chosen d → Bounded s i d
+  unfolding Reached
+  decision-bounded i d e = let c = h .cert i d e in bounded-message n s (h .base) i (c .r) d (c .w) (c .said-it)
+
+  -- A.12: nobody who can still turn is more than one round behind anybody who started
+  pub one-ahead : (i b r v w : ℕ) → s b .state ≡ running → M s i r v w → r ≤ suc (s b .round)
+  one-ahead i b r v w k m = let g = reached-base in
+      window.one-ahead n s g i b r v w (g .range b (s b .round) (s b .value) (s b .world) (g .wf b .now k)) k m
+
+  -- a member of a later world has sent the round before
+  pub members-heard : (i r v w : ℕ) → M s i (suc (suc r)) v w → (j : ℕ) → In n j → member j w ≡ true → (u : ℕ) × (y : ℕ) × (M s j (suc r) u y)
+  members-heard i r v w m j hj mj = let o = reached-base .came i r v w m .all-heard j hj mj in (o .value-of, o .world-of, o .msg)
+
+  -- a running bench has the value that was decided
+  pub decided-value : (i d : ℕ) → s i .decision ≡ chosen d → (b : ℕ) → s b .state ≡ running → s b .value ≡ d
+  unfolding Reached
+  decided-value i d e b k = let g = reached-base in
+      cert-now n s g i d (h .cert i d e) b (g .range b (s b .round) (s b .value) (s b .world) (g .wf b .now k)) k

@@ -1,0 +1,52 @@
+-- A refused step returns the run itself, so a list of steps with its refused ones left out leads to the same run. Assumes nothing.
+use mathlib.Core.Path.{_≡_, refl, sym, ap, _∙_}
+use Prim.Native.Nat.{ℕ, zero, suc}
+use mathlib.Core.Bool.{Bool, true, false, cond}
+use mathlib.Core.List.{List, [], _∷_, map}
+use native.Mathlib.Omega.{arith}
+use lib.Dec.{eqb}
+use borrow.Author.Tests.{eqb-true, eqb-false}
+use Rattle.published.specs.Rounds.{Run, Limit, Step, checks, Answer, refuse, done, step, runFrom, answers}
+use Rattle.published.proofs.Tests.{clash, split, cond-ind}
+use Rattle.published.proofs.Checks.{OneOf, first, further, refusals, refusal-among}
+use Rattle.published.proofs.Moves.{Outcome, refused, moved, step-outcome}
+
+module _ (n : ℕ) (lim : Limit) where
+  refused-outcome : (s : Run) (a : Step) (r : Answer) → Outcome n lim s a r → (r .number ≡ 0 → ⊥) → r .run ≡ s
+  unfolding refuse done
+  refused-outcome s a r (refused k f) e = refl
+  refused-outcome s a r (moved b x m) e = absurd (e refl)
+
+  pub refused-same : (s : Run) (a : Step) → (step n lim s a .number ≡ 0 → ⊥) → step n lim s a .run ≡ s
+  refused-same s a e = refused-outcome s a (step n lim s a) (step-outcome n lim s a) e
+
+  number-outcome : (s : Run) (a : Step) (r : Answer) → Outcome n lim s a r → OneOf (r .number) (0 ∷ refusals a)
+  unfolding refuse done
+  number-outcome s a r (refused k f) = further 0 (refusals a) (refusal-among n lim s a (suc k) f)
+  number-outcome s a r (moved b x m) = first (refusals a)
+
+  -- an answer is 0 or one of the numbers that document 01 lists for the step
+  pub number-among : (s : Run) (a : Step) → OneOf (step n lim s a .number) (0 ∷ refusals a)
+  number-among s a = number-outcome s a (step n lim s a) (step-outcome n lim s a)
+
+  -- the steps of a list that are done
+  unfoldable pub accepted : Run → List Step → List Step
+  accepted s [] = []
+  accepted s (a ∷ l) = cond (eqb (step n lim s a .number) 0) (a ∷ accepted (step n lim s a .run) l) (accepted (step n lim s a .run) l)
+
+  pub without-refused : (s : Run) (l : List Step) → runFrom n lim s (accepted s l) ≡ runFrom n lim s l
+  unfolding accepted runFrom
+  without-refused s [] = refl
+  without-refused s (a ∷ l) = cond-ind (λ k. runFrom n lim s k ≡ runFrom n lim (step n lim s a .run) l) (eqb (step n lim s a .number) 0)
+      (a ∷ accepted (step n lim s a .run) l) (accepted (step n lim s a .run) l)
+      (λ e. without-refused (step n lim s a .run) l)
+      (λ e. rw (refused-same s a (eqb-false (step n lim s a .number) 0 e)) (without-refused s l))
+
+  -- and each of them is answered 0
+  pub accepted-done : (s : Run) (l : List Step) → answers n lim s (accepted s l) ≡ map (λ a. 0) (accepted s l)
+  unfolding accepted answers
+  accepted-done s [] = refl
+  accepted-done s (a ∷ l) = cond-ind (λ k. answers n lim s k ≡ map (λ a. 0) k) (eqb (step n lim s a .number) 0)
+      (a ∷ accepted (step n lim s a .run) l) (accepted (step n lim s a .run) l)
+      (λ e. let z = eqb-true (step n lim s a .number) 0 e in let ih = accepted-done (step n lim s a .run) l in cc)
+      (λ e. rw (refused-same s a (eqb-false (step n lim s a .number) 0 e)) (accepted-done s l))

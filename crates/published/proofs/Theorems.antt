@@ -1,0 +1,66 @@
+-- What is proved of the published rounds, for every number of benches n, every limit on rounds and every list of steps from the empty run, refused
+-- ones among them. Each statement is one line; the proofs are in the other files. Assumes nothing.
+use mathlib.Core.Path.{_≡_, refl, sym, _∙_}
+use Prim.Native.Nat.{ℕ, suc, _≤_}
+use mathlib.Core.Bool.{true}
+use mathlib.Core.List.{List, [], _∷_, map}
+use Rattle.published.specs.Rounds.{Run, found, running, chosen, member, find, Limit, Step, turn, step, runFrom, answers, newRun}
+use Rattle.published.proofs.Worlds.{In}
+use Rattle.published.proofs.Checks.{OneOf, refusals}
+use Rattle.published.proofs.Invariant.{M}
+use Rattle.published.proofs.Reached.{Proposed, Bounded, Reached, reached-run, decisions-agree, decision-proposed, decision-bounded}
+use Rattle.published.proofs.Reached as reached
+use Rattle.published.proofs.Refusals as refusing
+use Rattle.published.proofs.Locality as local
+
+module _ (n : ℕ) (lim : Limit) where
+  -- the run after the steps l
+  abbrev pub Run-of : List Step → Run
+  Run-of l = runFrom n lim newRun l
+
+  -- Agreement: all recorded decisions are equal, those of benches that left or failed later included.
+  pub agreement : (l : List Step) (i j d e : ℕ) → Run-of l i .decision ≡ chosen d → Run-of l j .decision ≡ chosen e → d ≡ e
+  agreement l = decisions-agree n (Run-of l) (reached-run n lim l)
+
+  -- Validity: a decision is the value that some bench started with.
+  pub validity : (l : List Step) (i d : ℕ) → Run-of l i .decision ≡ chosen d → Proposed (Run-of l) d
+  validity l = decision-proposed n (Run-of l) (reached-run n lim l)
+
+  -- No bench decides above its own proposal.
+  pub not-above-own : (l : List Step) (i d : ℕ) → Run-of l i .decision ≡ chosen d → Bounded (Run-of l) i d
+  not-above-own l = decision-bounded n (Run-of l) (reached-run n lim l)
+
+  -- A refused step returns the run itself.
+  pub refused-same : (s : Run) (a : Step) → (step n lim s a .number ≡ 0 → ⊥) → step n lim s a .run ≡ s
+  refused-same = refusing.refused-same n lim
+
+  -- A list with its refused steps left out gives the same run, and every step that is left is answered 0.
+  pub without-refused : (l : List Step) → Run-of (refusing.accepted n lim newRun l) ≡ Run-of l
+  without-refused = refusing.without-refused n lim newRun
+
+  pub accepted-done : (l : List Step) → answers n lim newRun (refusing.accepted n lim newRun l) ≡ map (λ a. 0) (refusing.accepted n lim newRun l)
+  accepted-done = refusing.accepted-done n lim newRun
+
+  -- A step answers 0 or one of the numbers that document 01 lists for it.
+  pub number-among : (s : Run) (a : Step) → OneOf (step n lim s a .number) (0 ∷ refusals a)
+  number-among = refusing.number-among n lim
+
+  -- Locality: two lists of steps that bring the same history to bench b leave it the same, and turn then answers it the same number and makes the same of it.
+  pub history-decides : (l l′ : List Step) (b : ℕ) → local.history n lim newRun b l ≡ local.history n lim newRun b l′ → Run-of l b ≡ Run-of l′ b
+  history-decides l l′ b e = local.bench-history n lim newRun b l ∙ rw e (sym (local.bench-history n lim newRun b l′))
+
+  pub turn-number-local : (l l′ : List Step) (b : ℕ) → local.history n lim newRun b l ≡ local.history n lim newRun b l′
+      → step n lim (Run-of l) (turn b) .number ≡ step n lim (Run-of l′) (turn b) .number
+  turn-number-local l l′ b e = local.turn-number n lim (Run-of l) (Run-of l′) b (history-decides l l′ b e)
+
+  pub turn-becomes-local : (l l′ : List Step) (b : ℕ) → local.history n lim newRun b l ≡ local.history n lim newRun b l′
+      → step n lim (Run-of l) (turn b) .run b ≡ step n lim (Run-of l′) (turn b) .run b
+  turn-becomes-local l l′ b e = local.turn-becomes n lim (Run-of l) (Run-of l′) b (history-decides l l′ b e)
+
+  -- A.12: nobody who can still turn is more than one round behind anybody who started.
+  pub one-ahead : (l : List Step) (i b r v w : ℕ) → Run-of l b .state ≡ running → M (Run-of l) i r v w → r ≤ suc (Run-of l b .round)
+  one-ahead l = reached.one-ahead n (Run-of l) (reached-run n lim l)
+
+  -- Whoever stands in the world of a later round has sent the round before: no missed bench is kept.
+  pub members-heard : (l : List Step) (i r v w : ℕ) → M (Run-of l) i (suc (suc r)) v w → (j : ℕ) → In n j → member j w ≡ true → (u : ℕ) × (y : ℕ) × (M (Run-of l) j (suc r) u y)
+  members-heard l = reached.members-heard n (Run-of l) (reached-run n lim l)

@@ -1,0 +1,119 @@
+-- Laws of worlds: members, tests of every bench or every member, the world of a test. Assumes nothing.
+use mathlib.Core.Path.{_≡_, refl, _∙_}
+use Prim.Native.Nat.{ℕ, zero, suc, _+_, _-_, _*_, _/_, _%_, _^_, _≤_, _<_}
+use mathlib.Core.Bool.{Bool, true, false, cond, not, _&&_, _||_}
+use native.Mathlib.Nat.{div-div-eq-div-mul, pow-succ'}
+use native.Mathlib.Numerals.{add-one}
+use native.Mathlib.Omega.{arith}
+use lib.Dec.{eqb}
+use borrow.Author.Tests.{eqb-true, eqb-false, eq-eqb, ne-eqb}
+use Rattle.published.specs.Rounds.{bit, member, every, everyIn, within, worldOf}
+use Rattle.published.proofs.Tests.{both, implies, imply, clash, split}
+
+-- bench i is one of the benches 1 to n
+abbrev pub In : ℕ → ℕ → Type 0
+In n i = (1 ≤ i) × (i ≤ n)
+
+-- ---- every bench, every member
+
+pub every-get : (n : ℕ) (p : ℕ → Bool) (i : ℕ) → every n p ≡ true → In n i → p i ≡ true
+unfolding every
+every-get zero p i e h = absurd (omega arith)
+every-get (suc n) p i e h = split (eqb i (suc n))
+    (λ q. rw (eqb-true i (suc n) q) (both (every n p) (p (suc n)) e .1))
+    (λ q. let ne = eqb-false i (suc n) q in every-get n p i (both (every n p) (p (suc n)) e .0) (omega arith))
+
+pub every-make : (n : ℕ) (p : ℕ → Bool) → ((i : ℕ) → In n i → p i ≡ true) → every n p ≡ true
+unfolding every
+every-make zero p f = refl
+every-make (suc n) p f = let a = every-make n p (λ i h. f i (omega arith)) in let b = f (suc n) (omega arith) in cc
+
+-- a bench at which the test fails
+pub every-fails : (n : ℕ) (p : ℕ → Bool) → every n p ≡ false → (i : ℕ) × In n i × (p i ≡ false)
+unfolding every
+every-fails zero p e = clash (cc)
+every-fails (suc n) p e = split (p (suc n))
+    (λ z. let r = every-fails n p (and-false (every n p) (p (suc n)) e z) in (r .0, (omega arith), r .2))
+    (λ z. (suc n, (omega arith), z))
+  where
+    and-false : (a c : Bool) → (a && c) ≡ false → c ≡ true → a ≡ false
+    and-false true c e z = clash (cc)
+    and-false false c e z = refl
+
+pub everyIn-get : (n w : ℕ) (p : ℕ → Bool) (i : ℕ) → everyIn n w p ≡ true → In n i → member i w ≡ true → p i ≡ true
+unfolding everyIn
+everyIn-get n w p i e h m = implies (member i w) (p i) (every-get n (λ j. not (member j w) || p j) i e h) m
+
+pub everyIn-make : (n w : ℕ) (p : ℕ → Bool) → ((i : ℕ) → In n i → member i w ≡ true → p i ≡ true) → everyIn n w p ≡ true
+unfolding everyIn
+everyIn-make n w p f = every-make n (λ i. not (member i w) || p i) (λ i h. imply (member i w) (p i) (f i h))
+
+-- each bench of the world u is one of the world w
+abbrev pub Sub : ℕ → ℕ → ℕ → Type 0
+Sub n u w = (j : ℕ) → In n j → member j u ≡ true → member j w ≡ true
+
+pub within-get : (n u w : ℕ) → within n u w ≡ true → Sub n u w
+unfolding within
+within-get n u w e j h m = everyIn-get n u (λ i. member i w) j e h m
+
+pub within-make : (n u w : ℕ) → Sub n u w → within n u w ≡ true
+unfolding within
+within-make n u w f = everyIn-make n u (λ i. member i w) f
+
+-- ---- the world of a test
+
+bit-worldOf : (n : ℕ) (p : ℕ → Bool) (i : ℕ) → i < n → bit i (worldOf n p) ≡ p (suc i)
+unfolding bit worldOf
+bit-worldOf zero p i h = absurd (omega arith)
+bit-worldOf (suc n) p zero h = go (p 1)
+  where
+    go : (c : Bool) → eqb ((cond c 1 0 + 2 * worldOf n (λ i. p (suc i))) % 2) 1 ≡ c
+    go true = eq-eqb ((1 + 2 * worldOf n (λ i. p (suc i))) % 2) 1 (omega arith)
+    go false = ne-eqb ((0 + 2 * worldOf n (λ i. p (suc i))) % 2) 1 (omega arith)
+bit-worldOf (suc n) p (suc i) h = rw (half (p 1)) (bit-worldOf n (λ i. p (suc i)) i (omega arith))
+  where
+    half : (c : Bool) → (cond c 1 0 + 2 * worldOf n (λ i. p (suc i))) / 2 ≡ worldOf n (λ i. p (suc i))
+    half true = omega arith
+    half false = omega arith
+
+pub member-worldOf : (n : ℕ) (p : ℕ → Bool) (i : ℕ) → In n i → member i (worldOf n p) ≡ p i
+unfolding member
+member-worldOf n p zero h = absurd (omega arith)
+member-worldOf n p (suc i) h = bit-worldOf n p i (omega arith)
+
+pub worldOf-lt : (n : ℕ) (p : ℕ → Bool) → worldOf n p < 2 ^ n
+unfolding worldOf
+worldOf-lt zero p = omega arith
+worldOf-lt (suc n) p = let ih = worldOf-lt n (λ i. p (suc i)) in
+    split (p 1) (λ e. rw e (omega arith)) (λ e. rw e (omega arith))
+
+-- ---- bits and places, as code counts them
+
+pub bit-pow : (i w : ℕ) → bit i w ≡ eqb (w / 2 ^ i % 2) 1
+unfolding bit
+bit-pow zero w = let e : w / 1 ≡ w = omega arith in rw e
+bit-pow (suc i) w = bit-pow i (w / 2) ∙ rw (div-div-eq-div-mul w 2 (2 ^ i), ← pow-succ' 2 i)
+
+pub member-bit : (b w : ℕ) → 1 ≤ b → member b w ≡ bit (b - 1) w
+unfolding member
+member-bit zero w h = absurd (omega arith)
+member-bit (suc i) w h = let e : suc i - 1 ≡ i = omega arith in rw e
+
+-- one more bench, as a loop counts
+pub every-next : (i : ℕ) (p : ℕ → Bool) → every (i + 1) p ≡ (every i p && p (i + 1))
+unfolding every
+every-next i p = rw add-one
+
+worldOf-snoc : (n : ℕ) (p : ℕ → Bool) → worldOf (suc n) p ≡ worldOf n p + cond (p (suc n)) (2 ^ n) 0
+unfolding worldOf
+worldOf-snoc zero p = omega arith
+worldOf-snoc (suc n) p =
+    let ih = worldOf-snoc n (λ i. p (suc i)) in let d = double (p (suc (suc n))) (2 ^ n) in
+    let e : 2 * 2 ^ n ≡ 2 ^ suc n = omega arith in let d′ = rw e at d in omega arith
+  where
+    double : (c : Bool) (k : ℕ) → 2 * cond c k 0 ≡ cond c (2 * k) 0
+    double true k = refl
+    double false k = refl
+
+pub worldOf-next : (i : ℕ) (p : ℕ → Bool) → worldOf (i + 1) p ≡ worldOf i p + cond (p (i + 1)) (2 ^ i) 0
+worldOf-next i p = rw add-one (worldOf-snoc i p)

@@ -1,0 +1,347 @@
+-- The published rounds, as document 01 states them, for a table of n benches and an optional limit on rounds.
+-- This file is to be believed: it says again, in document 01's words and order, what every promise about a run comes down to.
+use Prim.Native.Nat.{ℕ, zero, suc, _+_, _*_, _/_, _%_, _^_, min}
+use mathlib.Core.Bool.{Bool, true, false, cond, not, _&&_, _||_}
+use mathlib.Core.List.{List, [], _∷_, _++_}
+use lib.ListN.{length, drop}
+use lib.Dec.{eqb, leb, ltb}
+
+-- ---- Worlds. A world is a set of benches, held as a number: bench i is bit i - 1.
+
+unfoldable pub bit : ℕ → ℕ → Bool
+bit zero w = eqb (w % 2) 1
+bit (suc i) w = bit i (w / 2)
+
+unfoldable pub member : ℕ → ℕ → Bool
+member zero w = false
+member (suc i) w = bit i w
+
+-- the test holds of each bench 1 to n
+unfoldable pub every : ℕ → (ℕ → Bool) → Bool
+every zero p = true
+every (suc n) p = every n p && p (suc n)
+
+-- the test holds of each member of w
+unfoldable pub everyIn : ℕ → ℕ → (ℕ → Bool) → Bool
+everyIn n w p = every n (λ i. not (member i w) || p i)
+
+-- each member of u is one of w
+unfoldable pub within : ℕ → ℕ → ℕ → Bool
+within n u w = everyIn n u (λ i. member i w)
+
+-- the world of those benches 1 to n of which the test holds
+unfoldable pub worldOf : ℕ → (ℕ → Bool) → ℕ
+worldOf zero p = 0
+worldOf (suc n) p = cond (p 1) 1 0 + 2 * worldOf n (λ i. p (suc i))
+
+-- ---- A bench and its line
+
+-- either a round message (round, value, world) or OUT
+pub data Message : Type 0 where
+  Round : ℕ → ℕ → ℕ → Message
+  Out : Message
+
+pub data State : Type 0 where
+  fresh running decided abstained left failed : State
+
+pub data Decision : Type 0 where
+  none : Decision
+  chosen : ℕ → Decision
+
+-- `round`, `value` and `world` are those of the round that the bench is in; `sent` is every message that it sent, in order, to all other
+-- benches; `taken f` is what it has taken from the line of f, in order; `noticed f` closes that line.
+pub record Bench : Type 0 where
+  pub state : State
+  pub round : ℕ
+  pub value : ℕ
+  pub world : ℕ
+  pub sent : List Message
+  pub taken : ℕ → List Message
+  pub noticed : ℕ → Bool
+  pub decision : Decision
+
+abbrev pub Run : Type 0
+Run = ℕ → Bench
+
+unfoldable pub newBench : Bench
+newBench = record { state = fresh; round = 0; value = 0; world = 0; sent = []; taken = λ f. []; noticed = λ f. false; decision = none }
+
+unfoldable pub newRun : Run
+newRun i = newBench
+
+-- the function s, but x at b
+unfoldable pub put : {A : Type 0} → (ℕ → A) → ℕ → A → ℕ → A
+put s b x i = cond (eqb i b) x (s i)
+
+-- ---- What a step makes of a bench
+
+unfoldable pub inState : State → Bench → Bench
+inState k x = record { state = k; round = x .round; value = x .value; world = x .world; sent = x .sent; taken = x .taken; noticed = x .noticed; decision = x .decision }
+
+unfoldable pub inRound : ℕ → ℕ → ℕ → Bench → Bench
+inRound r v w x = record { state = running; round = r; value = v; world = w; sent = x .sent; taken = x .taken; noticed = x .noticed; decision = x .decision }
+
+unfoldable pub sending : Message → Bench → Bench
+sending m x = record { state = x .state; round = x .round; value = x .value; world = x .world; sent = x .sent ++ (m ∷ []); taken = x .taken; noticed = x .noticed; decision = x .decision }
+
+unfoldable pub taking : ℕ → Message → Bench → Bench
+taking f m x = record { state = x .state; round = x .round; value = x .value; world = x .world; sent = x .sent; taken = put (x .taken) f (x .taken f ++ (m ∷ [])); noticed = x .noticed; decision = x .decision }
+
+unfoldable pub noticing : ℕ → Bench → Bench
+noticing f x = record { state = x .state; round = x .round; value = x .value; world = x .world; sent = x .sent; taken = x .taken; noticed = put (x .noticed) f true; decision = x .decision }
+
+unfoldable pub choosing : ℕ → Bench → Bench
+choosing v x = record { state = x .state; round = x .round; value = x .value; world = x .world; sent = x .sent; taken = x .taken; noticed = x .noticed; decision = chosen v }
+
+-- it goes into round r with value v and world w, and sends that round's message
+unfoldable pub entering : ℕ → ℕ → ℕ → Bench → Bench
+entering r v w x = sending (Round r v w) (inRound r v w x)
+
+-- it goes to state k and sends OUT
+unfoldable pub parting : State → Bench → Bench
+parting k x = sending Out (inState k x)
+
+-- ---- How a bench sees another: heard (value, world), excused, missed or awaited
+
+pub data Found : Type 0 where
+  absent : Found
+  found : ℕ → ℕ → Found
+
+-- the value and the world of the round r message
+unfoldable pub find : ℕ → List Message → Found
+find r [] = absent
+find r (Out ∷ l) = find r l
+find r (Round q v w ∷ l) = cond (eqb q r) (found v w) (find r l)
+
+unfoldable pub hasOut : List Message → Bool
+hasOut [] = false
+hasOut (Out ∷ l) = true
+hasOut (Round q v w ∷ l) = hasOut l
+
+pub data View : Type 0 where
+  heard : ℕ → ℕ → View
+  excused missed awaited : View
+
+-- by the round r message, whether OUT has come, and whether the failure is noticed
+unfoldable pub viewOf : Found → Bool → Bool → View
+viewOf (found v w) o g = heard v w
+viewOf absent true g = excused
+viewOf absent false true = missed
+viewOf absent false false = awaited
+
+-- what bench b has of the messages of i: its own at once
+unfoldable pub got : ℕ → Bench → ℕ → List Message
+got b x i = cond (eqb i b) (x .sent) (x .taken i)
+
+unfoldable pub see : ℕ → Bench → ℕ → View
+see b x i = viewOf (find (x .round) (got b x i)) (hasOut (got b x i)) (x .noticed i)
+
+-- ---- Turn: what a bench with value v and world w makes of its views z of the members
+
+-- heard with that value and a world within w, or excused
+unfoldable pub agrees : ℕ → ℕ → ℕ → View → Bool
+agrees n v w (heard u y) = eqb u v && within n y w
+agrees n v w excused = true
+agrees n v w missed = false
+agrees n v w awaited = false
+
+unfoldable pub isAwaited : View → Bool
+isAwaited (heard u y) = false
+isAwaited excused = false
+isAwaited missed = false
+isAwaited awaited = true
+
+unfoldable pub isHeard : View → Bool
+isHeard (heard u y) = true
+isHeard excused = false
+isHeard missed = false
+isHeard awaited = false
+
+unfoldable pub lesser : Bool → View → ℕ → ℕ
+lesser true (heard u y) m = min u m
+lesser true excused m = m
+lesser true missed m = m
+lesser true awaited m = m
+lesser false z m = m
+
+unfoldable pub decidesOn : ℕ → ℕ → ℕ → (ℕ → View) → Bool
+decidesOn n v w z = everyIn n w (λ i. agrees n v w (z i))
+
+-- nobody is awaited
+unfoldable pub settledOn : ℕ → ℕ → (ℕ → View) → Bool
+settledOn n w z = everyIn n w (λ i. not (isAwaited (z i)))
+
+unfoldable pub heardOn : ℕ → ℕ → (ℕ → View) → ℕ
+heardOn n w z = worldOf n (λ i. member i w && isHeard (z i))
+
+-- the least value heard; the bench's own v is one of them
+unfoldable pub leastOn : ℕ → ℕ → ℕ → (ℕ → View) → ℕ
+leastOn zero v w z = v
+leastOn (suc k) v w z = lesser (member (suc k) w) (z (suc k)) (leastOn k v w z)
+
+unfoldable pub decides : ℕ → ℕ → Bench → Bool
+decides n b x = decidesOn n (x .value) (x .world) (see b x)
+
+unfoldable pub settled : ℕ → ℕ → Bench → Bool
+settled n b x = settledOn n (x .world) (see b x)
+
+unfoldable pub nextWorld : ℕ → ℕ → Bench → ℕ
+nextWorld n b x = heardOn n (x .world) (see b x)
+
+unfoldable pub nextValue : ℕ → ℕ → Bench → ℕ
+nextValue n b x = leastOn n (x .value) (x .world) (see b x)
+
+unfoldable pub deciding : Bench → Bench
+deciding x = parting decided (choosing (x .value) x)
+
+unfoldable pub advancing : ℕ → ℕ → Bench → Bench
+advancing n b x = entering (suc (x .round)) (nextValue n b x) (nextWorld n b x) x
+
+unfoldable pub turned : ℕ → ℕ → Bench → Bench
+turned n b x = cond (decides n b x) (deciding x) (advancing n b x)
+
+unfoldable pub leaving : Bench → Bench
+leaving x = cond (hasOut (x .sent)) (inState left x) (parting left x)
+
+-- ---- What the checks ask
+
+unfoldable pub isBench : ℕ → ℕ → Bool
+isBench n b = leb 1 b && leb b n
+
+unfoldable pub isFresh : State → Bool
+isFresh fresh = true
+isFresh running = false
+isFresh decided = false
+isFresh abstained = false
+isFresh left = false
+isFresh failed = false
+
+unfoldable pub isRunning : State → Bool
+isRunning fresh = false
+isRunning running = true
+isRunning decided = false
+isRunning abstained = false
+isRunning left = false
+isRunning failed = false
+
+unfoldable pub isFailed : State → Bool
+isFailed fresh = false
+isFailed running = false
+isFailed decided = false
+isFailed abstained = false
+isFailed left = false
+isFailed failed = true
+
+unfoldable pub isGone : State → Bool
+isGone fresh = false
+isGone running = false
+isGone decided = false
+isGone abstained = false
+isGone left = true
+isGone failed = true
+
+-- a bench has started if it has sent its round 1 message
+unfoldable pub hasStarted : Found → Bool
+hasStarted absent = false
+hasStarted (found v w) = true
+
+-- the world that it started with, if it ever started, has bench b
+unfoldable pub startedWith : ℕ → Found → Bool
+startedWith b absent = true
+startedWith b (found v w) = member b w
+
+-- w has each bench that has started and has neither left nor failed
+unfoldable pub hasAll : ℕ → Run → ℕ → Bool
+hasAll n s w = every n (λ i. not (hasStarted (find 1 (s i .sent))) || isGone (s i .state) || member i w)
+
+-- the world of each bench that ever started has bench b
+unfoldable pub inAll : ℕ → Run → ℕ → Bool
+inAll n s b = every n (λ i. startedWith b (find 1 (s i .sent)))
+
+-- what waits on the line from f to b
+unfoldable pub waiting : Run → ℕ → ℕ → List Message
+waiting s b f = drop (length (s b .taken f)) (s f .sent)
+
+unfoldable pub some : List Message → Bool
+some [] = false
+some (m ∷ l) = true
+
+unfoldable pub takingFirst : ℕ → List Message → Bench → Bench
+takingFirst f [] x = x
+takingFirst f (m ∷ l) x = taking f m x
+
+-- no limit on rounds, or the highest round
+pub data Limit : Type 0 where
+  unlimited : Limit
+  upTo : ℕ → Limit
+
+unfoldable pub allows : Limit → ℕ → Bool
+allows unlimited r = true
+allows (upTo k) r = leb r k
+
+-- ---- The steps
+
+pub data Step : Type 0 where
+  start : ℕ → ℕ → ℕ → Step
+  abstain leave fail turn : ℕ → Step
+  arrive notice : ℕ → ℕ → Step
+
+-- what must hold, and the refusal number where it does not
+pub data Check : Type 0 where
+  needs : ℕ → Bool → Check
+
+-- the checks of each step, in document 01's order
+unfoldable pub checks : ℕ → Limit → Run → Step → List Check
+checks n lim s (start b v w) =
+    needs 1 (isBench n b) ∷ needs 3 (isFresh (s b .state)) ∷ needs 4 (leb v 65535) ∷ needs 5 (ltb w (2 ^ n) && member b w)
+    ∷ needs 6 (hasAll n s w) ∷ needs 7 (inAll n s b) ∷ []
+checks n lim s (abstain b) = needs 1 (isBench n b) ∷ needs 3 (isFresh (s b .state)) ∷ []
+checks n lim s (leave b) = needs 1 (isBench n b) ∷ needs 3 (not (isGone (s b .state))) ∷ []
+checks n lim s (fail b) = needs 1 (isBench n b) ∷ needs 3 (not (isGone (s b .state))) ∷ []
+checks n lim s (turn b) =
+    needs 1 (isBench n b) ∷ needs 3 (isRunning (s b .state)) ∷ needs 11 (settled n b (s b))
+    ∷ needs 12 (decides n b (s b) || allows lim (suc (s b .round))) ∷ []
+checks n lim s (arrive b f) =
+    needs 1 (isBench n b && isBench n f) ∷ needs 2 (not (eqb b f)) ∷ needs 3 (isFresh (s b .state) || isRunning (s b .state))
+    ∷ needs 9 (not (s b .noticed f)) ∷ needs 8 (some (waiting s b f)) ∷ []
+checks n lim s (notice b f) =
+    needs 1 (isBench n b && isBench n f) ∷ needs 2 (not (eqb b f)) ∷ needs 3 (isFresh (s b .state) || isRunning (s b .state))
+    ∷ needs 10 (isFailed (s f .state)) ∷ needs 9 (not (s b .noticed f)) ∷ []
+
+-- the run after the step, where every check holds
+unfoldable pub after : ℕ → Run → Step → Run
+after n s (start b v w) = put s b (entering 1 v w (s b))
+after n s (abstain b) = put s b (parting abstained (s b))
+after n s (leave b) = put s b (leaving (s b))
+after n s (fail b) = put s b (inState failed (s b))
+after n s (turn b) = put s b (turned n b (s b))
+after n s (arrive b f) = put s b (takingFirst f (waiting s b f) (s b))
+after n s (notice b f) = put s b (noticing f (s b))
+
+-- 0 and the run after, or a refusal's number and the run as it was
+pub record Answer : Type 0 where
+  pub number : ℕ
+  pub run : Run
+
+unfoldable pub refuse : ℕ → Run → Answer
+refuse k s = record { number = k; run = s }
+
+unfoldable pub done : Run → Answer
+done s = record { number = 0; run = s }
+
+-- the first check that fails refuses
+unfoldable pub judge : Run → List Check → Run → Answer
+judge s [] next = done next
+judge s (needs k true ∷ l) next = judge s l next
+judge s (needs k false ∷ l) next = refuse k s
+
+unfoldable pub step : ℕ → Limit → Run → Step → Answer
+step n lim s a = judge s (checks n lim s a) (after n s a)
+
+unfoldable pub runFrom : ℕ → Limit → Run → List Step → Run
+runFrom n lim s [] = s
+runFrom n lim s (a ∷ l) = runFrom n lim (step n lim s a .run) l
+
+unfoldable pub answers : ℕ → Limit → Run → List Step → List ℕ
+answers n lim s [] = []
+answers n lim s (a ∷ l) = step n lim s a .number ∷ answers n lim (step n lim s a .run) l

@@ -1,0 +1,1 @@
+// The published rounds, as definitions and theorems in specs/ and proofs/. There is no code here.
