@@ -1,0 +1,164 @@
+// A bench's turn, in three visits of the members of its world: is one awaited, does one forbid a decision, what was heard.
+
+ghost use mathlib.Core.Path.{_≡_};
+ghost use mathlib.Core.Bool.{cond, not, _&&_, _||_};
+ghost use Prim.Native.Nat.{_<_};
+ghost use lib.Dec.{eqb};
+ghost use lib.Bits.{bitAnd};
+ghost use Rattle.bench.specs.Sets.{has};
+ghost use Rattle.bench.specs.Turns.{awaitedAt, awaitsOf, forbidsOf, gatherOf, refuses, concludes, goOnOf, turnOf};
+use crate::Answer;
+use crate::Bench;
+use crate::Gathered;
+use crate::Heard;
+use crate::Turned;
+use crate::sets::has;
+use kinds::Message;
+use kinds::RoundMessage;
+use kinds::RoundNo;
+use kinds::SlotNo;
+
+impl Bench {
+    // The bench looks at each member of its world. Where it refuses, the bench is handed back as it was.
+    pub fn turn(self, h: Heard) -> Turned
+        ensures { λ r. ⌜ r ≡ turnOf 16 96 self h ⌝ }
+    {
+        if self.state != 1 {
+            return self.refused(3);
+        }
+        if self.awaits(h) {
+            return self.refused(11);
+        }
+        if !self.forbids(h) {
+            return self.concluded();
+        }
+        if 96 <= self.round.0 {
+            return self.refused(12);
+        }
+        self.go_on(h)
+    }
+
+    // The first visit: whether some member is awaited.
+    fn awaits(self, h: Heard) -> bool
+        ensures { λ r. ⌜ r ≡ awaitsOf 16 self h ⌝ }
+    {
+        for k in 0..16usize {
+            if self.awaited_at(h, k) {
+                return true;
+            }
+        }
+        false
+    }
+
+    // The second visit: whether some member forbids a decision.
+    fn forbids(self, h: Heard) -> bool
+        ensures { λ r. ⌜ r ≡ forbidsOf 16 self h ⌝ }
+    {
+        for k in 0..16usize {
+            if self.forbids_at(k, has(h.set, k), h.values[k], h.worlds[k]) {
+                return true;
+            }
+        }
+        false
+    }
+
+    // The third visit: the least value heard from a member, and the members heard.
+    fn gather(self, h: Heard) -> Gathered
+        ensures { λ r. ⌜ r ≡ gatherOf 16 self h ⌝ }
+    {
+        let both = self.world & h.set;
+        let mut value = self.value.0;
+        for k in 0..16usize {
+            if has(both, k) {
+                let v = h.values[k];
+                if v < value {
+                    value = v;
+                }
+            }
+        }
+        Gathered {
+            value: SlotNo(value),
+            world: both,
+        }
+    }
+
+    // Whether place k is a member that is awaited: not heard, no OUT has come, no failure is noticed.
+    fn awaited_at(self, h: Heard, k: usize) -> bool
+        ensures { λ r. ⌜ r ≡ awaitedAt self h k ⌝ }
+    {
+        if !has(self.world, k) {
+            return false;
+        }
+        if has(h.set, k) {
+            return false;
+        }
+        if has(self.outs, k) {
+            return false;
+        }
+        !has(self.noticed, k)
+    }
+
+    // Whether place k is a member that forbids a decision: heard with another value or with a world not within the bench's own, or
+    // neither heard nor excused.
+    fn forbids_at(self, k: usize, heard: bool, value: u32, world: u32) -> bool
+        ensures { λ r. ⌜ r ≡ (has (self .world) k && cond heard (not (eqb value (self .value .0)) || not (eqb (bitAnd world (self .world)) world)) (not (has (self .outs) k))) ⌝ }
+    {
+        if !has(self.world, k) {
+            return false;
+        }
+        if !heard {
+            return !has(self.outs, k);
+        }
+        if value != self.value.0 {
+            return true;
+        }
+        (world & self.world) != world
+    }
+
+    fn refused(self, number: u8) -> Turned
+        ensures { λ r. ⌜ r ≡ refuses self number ⌝ }
+    {
+        Turned {
+            bench: self,
+            answer: Answer::Refused(number),
+        }
+    }
+
+    // The bench decides on its value and has OUT to send.
+    fn concluded(self) -> Turned
+        ensures { λ r. ⌜ r ≡ concludes self ⌝ }
+    {
+        let value = self.value;
+        let mut b = self;
+        b.state = 2;
+        b.chose = 1;
+        Turned {
+            bench: b,
+            answer: Answer::Decided(value, Message::Out),
+        }
+    }
+
+    // The bench is in the next round, with the least value heard and the members heard, and has that round's message to send.
+    fn go_on(self, h: Heard) -> Turned
+        requires { ⌜ self .round .0 < 96 ⌝ }
+        ensures { λ r. ⌜ r ≡ goOnOf 16 self h ⌝ }
+    {
+        let g = self.gather(h);
+        let round = RoundNo(self.round.0 + 1);
+        let value = g.value;
+        let mut b = self;
+        b.state = 1;
+        b.round = round;
+        b.value = value;
+        b.world = g.world;
+        let m = RoundMessage {
+            round,
+            value,
+            world: g.world,
+        };
+        Turned {
+            bench: b,
+            answer: Answer::Went(Message::Round(m)),
+        }
+    }
+}

@@ -1,0 +1,10 @@
+pub mod Words
+pub mod Hearing
+pub mod Sending
+pub mod Turning
+pub mod Moving
+pub mod Starting
+pub mod Numbers
+pub mod Reading
+pub mod Local
+pub mod Settled

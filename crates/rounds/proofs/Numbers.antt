@@ -1,0 +1,40 @@
+-- From bench numbers to places: checks 1 and 2, for every step. Assumes nothing.
+use mathlib.Core.Path.{_≡_, refl, sym, _∙_}
+use mathlib.Core.Bool.{Bool, true, false, not}
+use mathlib.Core.List.{List}
+use Prim.Native.Nat.{ℕ, _-_}
+use borrow.Author.Tests.{eq-eqb, ne-eqb, not-true, not-false}
+use Rattle.published.specs.Rounds.{isBench}
+use Rattle.tables.specs.Steps.{Act, Acts, atBench, atBenches}
+use Rattle.rounds.proofs.Moving.{refuses}
+
+pub known : (b : ℕ) (q : Bool) → q ≡ isBench 16 b → not q ≡ false → isBench 16 b ≡ true
+known b q is-q e = sym is-q ∙ not-false q e
+
+module _ (t l : List (List ℕ)) (b : ℕ) (q : Bool) (is-q : q ≡ isBench 16 b) where
+  pub at-none : (f : ℕ → Act) → not q ≡ true → Acts 1 t l (atBench 16 t l f b)
+  unfolding atBench
+  at-none f e = refuses (rw (sym is-q ∙ not-true q e) refl)
+
+  pub at-place : (f : ℕ → Act) (p r : ℕ) (t′ l′ : List (List ℕ)) → not q ≡ false → p ≡ b - 1 → Acts r t′ l′ (f p) → Acts r t′ l′ (atBench 16 t l f b)
+  unfolding atBench
+  at-place f p r t′ l′ e i d = rw (sym is-q ∙ not-false q e, ← i) d
+
+  module _ (g : ℕ → ℕ → Act) (f : ℕ) where
+    pub between-none : not q ≡ true → Acts 1 t l (atBenches 16 t l g b f)
+    unfolding atBenches
+    between-none e = refuses (rw (sym is-q ∙ not-true q e) refl)
+
+    module _ (known-b : not q ≡ false) (q′ : Bool) (is-q′ : q′ ≡ isBench 16 f) where
+      pub between-other : not q′ ≡ true → Acts 1 t l (atBenches 16 t l g b f)
+      unfolding atBenches
+      between-other e = refuses (rw (sym is-q ∙ not-false q known-b, sym is-q′ ∙ not-true q′ e) refl)
+
+      module _ (known-f : not q′ ≡ false) where
+        pub between-same : b ≡ f → Acts 2 t l (atBenches 16 t l g b f)
+        unfolding atBenches
+        between-same e = refuses (rw (sym is-q ∙ not-false q known-b, sym is-q′ ∙ not-false q′ known-f, eq-eqb b f e) refl)
+
+        pub between-places : (p p′ r : ℕ) (t′ l′ : List (List ℕ)) → (b ≡ f → ⊥) → p ≡ b - 1 → p′ ≡ f - 1 → Acts r t′ l′ (g p p′) → Acts r t′ l′ (atBenches 16 t l g b f)
+        unfolding atBenches
+        between-places p p′ r t′ l′ e i i′ d = rw (sym is-q ∙ not-false q known-b, sym is-q′ ∙ not-false q′ known-f, ne-eqb b f e, ← i, ← i′) d

@@ -1,0 +1,61 @@
+-- What a turn sends has room in the log, and one law for each way through a turn over the tables. Assumes nothing.
+use mathlib.Core.Path.{_≡_, refl, sym, ap, _∙_, subst}
+use mathlib.Core.List.{List}
+use Prim.Native.Nat.{ℕ}
+use native.Mathlib.Omega.{arith}
+use lib.Dec.{eqb, ltb}
+use borrow.Author.Tests.{ltb-true}
+use Rattle.published.proofs.Tests.{cond-ind}
+use Rattle.kinds.specs.declared.SlotNo.{SlotNo}
+use Rattle.kinds.specs.declared.Message.{Message}
+use Rattle.bench.specs.declared.Bench.{Bench}
+use Rattle.bench.specs.declared.Heard.{Heard}
+use Rattle.bench.specs.declared.Turned.{Turned}
+use Rattle.bench.specs.declared.Answer.{Answer}
+use Rattle.bench.specs.declared.Answer.the-variants.{Decided, Went, Refused}
+use Rattle.bench.specs.Changes.{inRound}
+use Rattle.bench.specs.Turns.{awaitsOf, forbidsOf, goOnOf, turnOf}
+use Rattle.tables.specs.Rows.{rows}
+use Rattle.tables.specs.Lines.{heardOf}
+use Rattle.tables.specs.Steps.{Acts, acted, sentOf, turnBy, turnOn, turnAt}
+use Rattle.rounds.specs.Rooms.{HasRoom}
+use Rattle.rounds.proofs.Moving.{refuses}
+
+abbrev Sends : Answer → Type 0
+Sends (Decided v m) = HasRoom m
+Sends (Went m) = HasRoom m
+Sends (Refused n) = Unit {0}
+
+sends : (b : Bench) (h : Heard) → Sends (turnOf 16 96 b h .answer)
+unfolding turnOf goOnOf inRound
+sends b h =
+    cond-ind (λ (r : Turned). Sends (r .answer)) (eqb (b .state) 1) _ _
+    (λ s. cond-ind (λ (r : Turned). Sends (r .answer)) (awaitsOf 16 b h) _ _ (λ a. tt)
+    (λ a. cond-ind (λ (r : Turned). Sends (r .answer)) (forbidsOf 16 b h) _ _
+    (λ f. cond-ind (λ (r : Turned). Sends (r .answer)) (ltb (b .round .0) 96) _ _ (λ e. omega (arith, ltb-true (b .round .0) 96 e)) (λ e. tt))
+    (λ f. tt)))
+    (λ s. tt)
+
+module _ (b : Bench) (h : Heard) (r : Turned) (is-r : r ≡ turnOf 16 96 b h) where
+  pub room-decided : (v : SlotNo) (m : Message) → r .answer ≡ Decided v m → HasRoom m
+  room-decided v m e = subst Sends (sym (ap (λ (x : Turned). x .answer) is-r) ∙ e) (sends b h)
+
+  pub room-went : (m : Message) → r .answer ≡ Went m → HasRoom m
+  room-went m e = subst Sends (sym (ap (λ (x : Turned). x .answer) is-r) ∙ e) (sends b h)
+
+  module _ (t l : List (List ℕ)) (k : ℕ) (is-b : b ≡ rows 16 t k) (is-h : h ≡ heardOf 16 96 l (rows 16 t k)) where
+    turned : turnAt 16 96 t l k ≡ turnBy 16 96 t l k (r .bench) (r .answer)
+    unfolding turnAt turnOn
+    turned = rw (← is-h, ← is-b, ← is-r) refl
+
+    pub turn-decided : (v : SlotNo) (m : Message) (t′ l′ : List (List ℕ)) → r .answer ≡ Decided v m → Acts 0 t′ l′ (acted (sentOf 16 96 t l k (r .bench) m)) → Acts 0 t′ l′ (turnAt 16 96 t l k)
+    unfolding turnBy
+    turn-decided v m t′ l′ e d = rw turned (rw e d)
+
+    pub turn-went : (m : Message) (t′ l′ : List (List ℕ)) → r .answer ≡ Went m → Acts 0 t′ l′ (acted (sentOf 16 96 t l k (r .bench) m)) → Acts 0 t′ l′ (turnAt 16 96 t l k)
+    unfolding turnBy
+    turn-went m t′ l′ e d = rw turned (rw e d)
+
+    pub turn-refused : (n : ℕ) → r .answer ≡ Refused n → Acts n t l (turnAt 16 96 t l k)
+    unfolding turnBy
+    turn-refused n e = refuses (turned ∙ (rw e refl))

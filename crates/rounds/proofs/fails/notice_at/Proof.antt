@@ -1,0 +1,50 @@
+-- `notice_at`: a law for each way.
+use Rattle.rounds.proofs.Moving.{notice-state, notice-early, notice-again, notice-done}
+use borrow.Author.Needs.{needs}
+use Rattle.rounds.proofs.fails.notice_at.Statement.{statement}
+use Rattle.rounds.proofs.fails.notice_at.Tie as tie
+
+state-at-requires : tie.Need-state-at-requires
+state-at-requires c κs = search needs
+
+returns : tie.Need-returns
+returns c = search notice-state
+
+state-at-requires-2 : tie.Need-state-at-requires-2
+state-at-requires-2 c κs = search needs
+
+returns-2 : tie.Need-returns-2
+returns-2 c = notice-early _ _ _ _ _ (c .before .before .before .before .state-at .ensures) (c .before .before .before .if1 .left) _ (c .before .state-at2 .ensures) (c .if2 .taken)
+
+noticed-at-requires : tie.Need-noticed-at-requires
+noticed-at-requires c κs = search needs
+
+has-requires : tie.Need-has-requires
+has-requires c κs = search needs
+
+returns-3 : tie.Need-returns-3
+returns-3 c =
+    notice-again _ _ _ _ _ (c .before .before .before .before .before .before .before .before .state-at .ensures) (c .before .before .before .before .before .before .before .if1 .left) _ (c .before .before .before .before .before .state-at2 .ensures) (c .before .before .before .before .if2 .left) _ _ (c .before .before .noticed-at .ensures) (c .before .has .ensures)
+    (c .if3 .taken)
+
+put-notice-requires : tie.Need-put-notice-requires
+put-notice-requires c κs = search needs
+
+returns-4 : tie.Need-returns-4
+returns-4 c =
+    notice-done _ _ _ _ _ (c .before .before .before .before .before .before .before .before .before .before .state-at .ensures) (c .before .before .before .before .before .before .before .before .before .if1 .left) _ (c .before .before .before .before .before .before .before .state-at2 .ensures) (c .before .before .before .before .before .before .if2 .left) _ _ (c .before .before .before .before .noticed-at .ensures) (c .before .before .before .has .ensures)
+    _ (c .before .before .if3 .left) (c .put-notice .ensures)
+
+pub notice-at-spec : {M : Type 1} → statement M
+notice-at-spec =
+    tie.close
+    (tie.spec
+    state-at-requires
+    returns
+    state-at-requires-2
+    returns-2
+    noticed-at-requires
+    has-requires
+    returns-3
+    put-notice-requires
+    returns-4)

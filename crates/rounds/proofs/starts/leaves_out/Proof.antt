@@ -1,0 +1,54 @@
+-- `leaves_out`: no bench below j is left out.
+use borrow.Author.Needs.{needs}
+use mathlib.Core.Path.{_≡_, refl}
+use mathlib.Core.Bool.{false}
+use Prim.Native.Nat.{_≤_, _-_}
+use Rattle.bench.specs.Sets.{some}
+use Rattle.tables.specs.Steps.{leftOutAt, leavesOut}
+use Rattle.bench.proofs.Members.{some-found, some-passed, some-none}
+use Rattle.rounds.proofs.starts.leaves_out.Statement.{statement}
+use Rattle.rounds.proofs.starts.leaves_out.Tie as tie
+
+abbrev Inv-loop : tie.InvT-loop
+Inv-loop benches world j₀ j = (j ≤ 16) × (some (leftOutAt benches world) j ≡ false)
+
+abbrev μ-loop : tie.MeasureT-loop
+μ-loop benches world j₀ j = 16 - j
+
+loop-holds : tie.Need-loop-holds Inv-loop μ-loop
+unfolding some
+loop-holds c = (search needs, refl)
+
+left-out-at-requires : tie.Need-left-out-at-requires Inv-loop μ-loop
+left-out-at-requires c κs = search needs
+
+returns : tie.Need-returns Inv-loop μ-loop
+unfolding leavesOut
+returns c = search some-found
+
+add-j : tie.Need-add-j Inv-loop μ-loop
+add-j c = search needs
+
+loop-less : tie.Need-loop-less Inv-loop μ-loop
+loop-less c = search needs
+
+loop-again : tie.Need-loop-again Inv-loop μ-loop
+loop-again c = (search needs, search some-passed)
+
+returns-2 : tie.Need-returns-2 Inv-loop μ-loop
+unfolding leavesOut
+returns-2 c = search some-none
+
+pub leaves-out-spec : {M : Type 1} → statement M
+leaves-out-spec =
+    tie.close
+    (tie.spec
+    Inv-loop
+    μ-loop
+    loop-holds
+    left-out-at-requires
+    returns
+    add-j
+    loop-less
+    loop-again
+    returns-2)

@@ -1,0 +1,60 @@
+-- `start_at`: a law for each way.
+use Rattle.rounds.proofs.Starting.{start-state, start-value, start-above, start-alien, start-leaves, start-shut, start-done}
+use borrow.Author.Needs.{needs}
+use Rattle.rounds.proofs.starts.start_at.Statement.{statement}
+use Rattle.rounds.proofs.starts.start_at.Tie as tie
+
+state-at-requires : tie.Need-state-at-requires
+state-at-requires c κs = search needs
+
+returns : tie.Need-returns
+returns c = search start-state
+
+returns-2 : tie.Need-returns-2
+returns-2 c = search start-value
+
+returns-3 : tie.Need-returns-3
+returns-3 c = search start-above
+
+has-requires : tie.Need-has-requires
+has-requires c κs = search needs
+
+returns-4 : tie.Need-returns-4
+returns-4 c = search start-alien
+
+leaves-out-requires : tie.Need-leaves-out-requires
+leaves-out-requires c κs = search needs
+
+returns-5 : tie.Need-returns-5
+returns-5 c = search start-leaves
+
+shuts-out-requires : tie.Need-shuts-out-requires
+shuts-out-requires c κs = search needs
+
+returns-6 : tie.Need-returns-6
+returns-6 c =
+    start-shut _ _ _ _ _ _ (c .before .before .before .before .before .before .before .before .before .before .before .before .before .state-at .ensures) (c .before .before .before .before .before .before .before .before .before .before .before .before .if1 .left) (c .before .before .before .before .before .before .before .before .before .before .if2 .left) (c .before .before .before .before .before .before .before .before .before .if3 .left) _ (c .before .before .before .before .before .before .before .before .has .ensures) (c .before .before .before .before .before .before .before .if4 .left) _
+    (c .before .before .before .before .before .leaves-out .ensures) (c .before .before .before .before .if5 .left) _ (c .before .shuts-out .ensures) (c .if6 .taken)
+
+begin-requires : tie.Need-begin-requires
+begin-requires c κs = search needs
+
+returns-7 : tie.Need-returns-7
+returns-7 c = search start-done
+
+pub start-at-spec : {M : Type 1} → statement M
+start-at-spec =
+    tie.close
+    (tie.spec
+    state-at-requires
+    returns
+    returns-2
+    returns-3
+    has-requires
+    returns-4
+    leaves-out-requires
+    returns-5
+    shuts-out-requires
+    returns-6
+    begin-requires
+    returns-7)

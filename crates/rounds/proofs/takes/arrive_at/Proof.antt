@@ -1,0 +1,80 @@
+-- `arrive_at`: a law for each way, by what was read of the rows.
+use Rattle.rounds.proofs.Moving.{arrive-state, arrive-closed, arrive-takes, arrive-empty}
+use borrow.Author.Needs.{needs}
+use Rattle.rounds.proofs.takes.arrive_at.Statement.{statement}
+use Rattle.rounds.proofs.takes.arrive_at.Tie as tie
+
+state-at-requires : tie.Need-state-at-requires
+state-at-requires c κs = search needs
+
+returns : tie.Need-returns
+returns c = search arrive-state
+
+noticed-at-requires : tie.Need-noticed-at-requires
+noticed-at-requires c κs = search needs
+
+has-requires : tie.Need-has-requires
+has-requires c κs = search needs
+
+returns-2 : tie.Need-returns-2
+returns-2 c = arrive-closed _ _ _ _ _ (c .before .before .before .before .before .state-at .ensures) (c .before .before .before .before .if1 .left) _ _ (c .before .before .noticed-at .ensures) (c .before .has .ensures) (c .if2 .taken)
+
+taken-at-requires : tie.Need-taken-at-requires
+taken-at-requires c κs = search needs
+
+outs-at-requires : tie.Need-outs-at-requires
+outs-at-requires c κs = search needs
+
+has-requires-2 : tie.Need-has-requires-2
+has-requires-2 c κs = search needs
+
+sent-at-requires : tie.Need-sent-at-requires
+sent-at-requires c κs = search needs
+
+out-at-requires : tie.Need-out-at-requires
+out-at-requires c κs = search needs
+
+next-on-requires : tie.Need-next-on-requires
+next-on-requires c κs = search needs
+
+enum-known-m : tie.Need-enum-known-m
+enum-known-m c = search needs
+
+put-take-requires : tie.Need-put-take-requires
+put-take-requires c κs = search needs
+
+enum-told : tie.Need-enum-told
+enum-told c = search needs
+
+returns-3 : tie.Need-returns-3
+returns-3 c =
+    arrive-takes _ _ _ _ _ (c .before .before .before .before .before .before .before .before .before .before .before .before .before .before .before .before .before .before .before .before .before .state-at .ensures) (c .before .before .before .before .before .before .before .before .before .before .before .before .before .before .before .before .before .before .before .before .if1 .left) _ _ (c .before .before .before .before .before .before .before .before .before .before .before .before .before .before .before .before .before .before .noticed-at .ensures) (c .before .before .before .before .before .before .before .before .before .before .before .before .before .before .before .before .before .has .ensures) (c .before .before .before .before .before .before .before .before .before .before .before .before .before .before .before .before .if2 .left) _ _ _ _ _ _
+    (c .before .before .before .before .before .before .before .before .before .before .before .before .before .before .taken-at .ensures) (c .before .before .before .before .before .before .before .before .before .before .before .before .outs-at .ensures) (c .before .before .before .before .before .before .before .before .before .before .before .has2 .ensures) (c .before .before .before .before .before .before .before .before .before .sent-at .ensures) (c .before .before .before .before .before .before .before .out-at .ensures) (c .before .before .before .before .before .next-on .ensures)
+    _ _ (c .before .before .before .m .given .1) (c .put-take .ensures)
+
+returns-4 : tie.Need-returns-4
+returns-4 c =
+    arrive-empty _ _ _ _ _ (c .before .before .before .before .before .before .before .before .before .before .before .before .before .before .before .before .before .before .state-at .ensures) (c .before .before .before .before .before .before .before .before .before .before .before .before .before .before .before .before .before .if1 .left) _ _ (c .before .before .before .before .before .before .before .before .before .before .before .before .before .before .before .noticed-at .ensures) (c .before .before .before .before .before .before .before .before .before .before .before .before .before .before .has .ensures) (c .before .before .before .before .before .before .before .before .before .before .before .before .before .if2 .left) _ _ _ _ _ _
+    (c .before .before .before .before .before .before .before .before .before .before .before .taken-at .ensures) (c .before .before .before .before .before .before .before .before .before .outs-at .ensures) (c .before .before .before .before .before .before .before .before .has2 .ensures) (c .before .before .before .before .before .before .sent-at .ensures) (c .before .before .before .before .out-at .ensures) (c .before .before .next-on .ensures)
+    (c .enum-told .given .1)
+
+pub arrive-at-spec : {M : Type 1} → statement M
+arrive-at-spec =
+    tie.close
+    (tie.spec
+    state-at-requires
+    returns
+    noticed-at-requires
+    has-requires
+    returns-2
+    taken-at-requires
+    outs-at-requires
+    has-requires-2
+    sent-at-requires
+    out-at-requires
+    next-on-requires
+    enum-known-m
+    put-take-requires
+    enum-told
+    returns-3
+    returns-4)

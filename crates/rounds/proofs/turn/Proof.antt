@@ -1,0 +1,27 @@
+-- `turn`: from the bench to its place.
+use Rattle.tables.specs.Steps.{tableStep}
+use Rattle.rounds.proofs.Numbers.{known, at-none, at-place}
+use borrow.Author.Needs.{needs}
+use Rattle.rounds.proofs.turn.Statement.{statement}
+use Rattle.rounds.proofs.turn.Tie as tie
+
+is-bench-requires : tie.Need-is-bench-requires
+is-bench-requires c κs = search needs
+
+returns : tie.Need-returns
+unfolding tableStep
+returns c = search at-none
+
+place-requires : tie.Need-place-requires
+place-requires c κs = search known
+
+turn-at-requires : tie.Need-turn-at-requires
+turn-at-requires c κs = search needs
+
+returns-2 : tie.Need-returns-2
+unfolding tableStep
+returns-2 c = search at-place
+
+pub turn-spec : {M : Type 1} → statement M
+turn-spec =
+    tie.close (tie.spec is-bench-requires returns place-requires turn-at-requires returns-2)

@@ -1,0 +1,69 @@
+// A bench sends: its message stands in its log, and it has it at once.
+
+ghost use Prim.Native.Nat.{_<_};
+ghost use Rattle.kinds.specs.declared.Message.the-variants.{Round, Out};
+ghost use Rattle.bench.specs.Changes.{inState, inRound};
+ghost use Rattle.tables.specs.Rows.{rows};
+ghost use Rattle.tables.specs.Steps.{Acts, acted, sentOf};
+ghost use Rattle.rounds.specs.Rooms.{HasRoom};
+use crate::rows::Benches;
+use crate::rows::Logs;
+use crate::rows::load;
+use crate::rows::store;
+use bench::Bench;
+use kinds::BenchNo;
+use kinds::Message;
+use kinds::RoundMessage;
+use kinds::RoundNo;
+use kinds::SlotNo;
+
+// The bench at k, now b, sends a message.
+pub(crate) fn send(benches: &mut Benches, logs: &mut Logs, k: usize, b: Bench, m: Message)
+    requires { ⌜ (k < 16) × HasRoom m ⌝ }
+    ensures { λ _. ⌜ Acts 0 (now (benches .exit)) (now (logs .exit)) (acted (sentOf 16 96 (now (benches .entry)) (now (logs .entry)) k b m)) ⌝ }
+{
+    let mut b = b.take(BenchNo(k as u32 + 1), m);
+    match m {
+        Message::Round(rm) => {
+            let n = rm.round.0;
+            let at = (n - 1) as usize;
+            logs[k][at] = rm.value.0;
+            logs[k][at + 96] = rm.world;
+            b.sent = n;
+            store(&mut *benches, k, b);
+        }
+        Message::Out => {
+            b.out = 1;
+            store(&mut *benches, k, b);
+        }
+    }
+}
+
+// The bench at k runs in round 1 and sends that round's message.
+pub(crate) fn begin(benches: &mut Benches, logs: &mut Logs, k: usize, value: SlotNo, world: u32)
+    requires { ⌜ k < 16 ⌝ }
+    ensures { λ _. ⌜ Acts 0 (now (benches .exit)) (now (logs .exit)) (acted (sentOf 16 96 (now (benches .entry)) (now (logs .entry)) k (inRound 1 value world (rows 16 (now (benches .entry)) k)) (Round (record { round = record { 0 = 1 }; value = value; world = world })))) ⌝ }
+{
+    let round = RoundNo(1);
+    let mut b = load(&*benches, k);
+    b.state = 1;
+    b.round = round;
+    b.value = value;
+    b.world = world;
+    let m = RoundMessage {
+        round,
+        value,
+        world,
+    };
+    send(&mut *benches, &mut *logs, k, b, Message::Round(m));
+}
+
+// The bench at k goes to a state and sends OUT.
+pub(crate) fn part(benches: &mut Benches, logs: &mut Logs, k: usize, state: u32)
+    requires { ⌜ k < 16 ⌝ }
+    ensures { λ _. ⌜ Acts 0 (now (benches .exit)) (now (logs .exit)) (acted (sentOf 16 96 (now (benches .entry)) (now (logs .entry)) k (inState state (rows 16 (now (benches .entry)) k)) Out)) ⌝ }
+{
+    let mut b = load(&*benches, k);
+    b.state = state;
+    send(&mut *benches, &mut *logs, k, b, Message::Out);
+}

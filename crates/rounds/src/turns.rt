@@ -1,0 +1,31 @@
+// Turn at the bench's place: what the bench makes of what it has heard, and what it sends.
+
+ghost use Prim.Native.Nat.{_<_};
+ghost use Rattle.tables.specs.Steps.{Acts, turnAt};
+use crate::lines::heard_by;
+use crate::rows::Benches;
+use crate::rows::Logs;
+use crate::rows::load;
+use crate::sends::send;
+use bench::Answer;
+
+pub(crate) fn turn_at(benches: &mut Benches, logs: &mut Logs, k: usize) -> u8
+    requires { ⌜ k < 16 ⌝ }
+    ensures { λ r. ⌜ Acts r (now (benches .exit)) (now (logs .exit)) (turnAt 16 96 (now (benches .entry)) (now (logs .entry)) k) ⌝ }
+{
+    let b = load(&*benches, k);
+    let turned = b.turn(heard_by(&*benches, &*logs, k));
+    let next = turned.bench;
+    let answer = turned.answer;
+    match answer {
+        Answer::Decided(_, m) => {
+            send(&mut *benches, &mut *logs, k, next, m);
+            0
+        }
+        Answer::Went(m) => {
+            send(&mut *benches, &mut *logs, k, next, m);
+            0
+        }
+        Answer::Refused(number) => number,
+    }
+}

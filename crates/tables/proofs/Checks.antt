@@ -1,0 +1,78 @@
+-- A check on the tables beside the published check of the same number, and the checks of bench numbers that every step begins with.
+-- A step's proof is then its list of checks, in document 01's order. Assumes nothing.
+use mathlib.Core.Path.{_≡_, refl}
+use mathlib.Core.Bool.{Bool, true, false, cond, not, _&&_}
+use mathlib.Core.List.{List, [], _∷_}
+use Prim.Native.Nat.{ℕ, suc, _-_, _<_}
+use native.Mathlib.Omega.{arith}
+use lib.Dec.{eqb, leb, ltb}
+use lib.ListN.{drop}
+use borrow.Author.Tests.{eqb-false, ltb-true, ltb-false, le-leb, lt-leb, leb-true}
+use Rattle.published.specs.Rounds.{Run, Step, Check, needs, Answer, checks, after, judge, done, step, upTo, isBench}
+use Rattle.published.proofs.Tests.{both, split}
+use Rattle.tables.specs.Steps.{Act, refused, atBench, atBenches}
+use Rattle.tables.specs.Runs.{runOf}
+use Rattle.tables.specs.Sound.{Sound}
+use Rattle.tables.specs.Meets.{Links}
+use Rattle.tables.proofs.Change.{refused-links}
+
+-- a test and the other way round
+pub not-above : (a b : ℕ) → leb b a ≡ not (ltb a b)
+not-above a b = split (ltb a b)
+    (λ e. let h = ltb-true a b e in rw (e, lt-leb b a h) refl)
+    (λ e. let h = ltb-false a b e in rw (e, le-leb b a h) refl)
+
+-- a bench of the run, and its place
+place : (N b : ℕ) → isBench N b ≡ true → (suc (b - 1) ≡ b) × (b - 1 < N)
+unfolding isBench
+place N b e =
+    let p = both (leb 1 b) (leb b N) e in let h₁ = leb-true 1 b (p .0) in let h₂ = leb-true b N (p .1) in
+    (omega arith, omega arith)
+
+module _ (N R : ℕ) (t l : List (List ℕ)) (s : Sound N R t l) where
+  abbrev run : Run
+  run = runOf N R t l
+
+  -- refused where the tables' test fails
+  pub asks : (n : ℕ) (c d : Bool) (e : Act) (more : List Check) (next : Run) → d ≡ c → (c ≡ true → Links N R e (judge run more next))
+      → Links N R (cond c e (refused n t l)) (judge run (needs n d ∷ more) next)
+  unfolding judge
+  asks n true d e more next p f = rw p (f refl)
+  asks n false d e more next p f = rw p (refused-links N R t l s n)
+
+  -- refused where it holds
+  pub bars : (n : ℕ) (c d : Bool) (e : Act) (more : List Check) (next : Run) → d ≡ not c → (c ≡ false → Links N R e (judge run more next))
+      → Links N R (cond c (refused n t l) e) (judge run (needs n d ∷ more) next)
+  unfolding judge
+  bars n true d e more next p f = rw p (refused-links N R t l s n)
+  bars n false d e more next p f = rw p (f refl)
+
+  -- no check is left
+  pub all-hold : (e : Act) (next : Run) → Links N R e (done next) → Links N R e (judge run [] next)
+  unfolding judge
+  all-hold e next k = k
+
+  -- a step behind its first n checks
+  abbrev pub behind : ℕ → Step → Answer
+  behind n a = judge run (drop n (checks N (upTo R) run a)) (after N run a)
+
+  -- a step of one bench, by its place
+  pub at-bench : (a : ℕ → Step) (f : ℕ → Act)
+      → ((b : ℕ) → checks N (upTo R) run (a b) ≡ needs 1 (isBench N b) ∷ drop 1 (checks N (upTo R) run (a b)))
+      → ((k : ℕ) → k < N → Links N R (f k) (behind 1 (a (suc k))))
+      → (b : ℕ) → Links N R (atBench N t l f b) (step N (upTo R) run (a b))
+  unfolding atBench step
+  at-bench a f c g b = rw (c b) (asks 1 (isBench N b) _ _ _ _ refl λ e₁.
+      let p = place N b e₁ in let k = g (b - 1) (p .1) in rw (p .0) at k)
+
+  -- a step of a bench and a sender, by their places
+  pub at-benches : (a : ℕ → ℕ → Step) (f : ℕ → ℕ → Act)
+      → ((b c : ℕ) → checks N (upTo R) run (a b c) ≡ needs 1 (isBench N b && isBench N c) ∷ needs 2 (not (eqb b c)) ∷ drop 2 (checks N (upTo R) run (a b c)))
+      → ((k j : ℕ) → k < N → j < N → (j ≡ k → ⊥) → Links N R (f k j) (behind 2 (a (suc k) (suc j))))
+      → (b c : ℕ) → Links N R (atBenches N t l f b c) (step N (upTo R) run (a b c))
+  unfolding atBenches step
+  at-benches a f h g b c = rw (h b c) (asks 1 (isBench N b && isBench N c) _ _ _ _ refl λ e₁.
+      bars 2 (eqb b c) _ _ _ _ refl λ e₂.
+      let e = both (isBench N b) (isBench N c) e₁ in let p = place N b (e .0) in let q = place N c (e .1) in
+      let ne = eqb-false b c e₂ in let k = g (b - 1) (c - 1) (p .1) (q .1) (λ x. ne (omega (arith, p .0, q .0))) in
+      rw (p .0, q .0) at k)

@@ -1,0 +1,74 @@
+-- Steps that send and take nothing: a bench leaves quietly, fails, or notices. Assumes nothing.
+use mathlib.Core.Path.{_≡_, refl, sym, fun-ext}
+use mathlib.Core.Bool.{Bool, true}
+use mathlib.Core.List.{List}
+use Prim.Native.Nat.{ℕ, zero, suc, _^_, _≤_, _<_}
+use native.Mathlib.Omega.{arith}
+use lib.Bits.{bitOr}
+use Rattle.published.specs.Rounds as published
+use Rattle.published.specs.Rounds.{put, done, noticing}
+use Rattle.published.proofs.Updates.{put-ind, put-other}
+use Rattle.bench.specs.declared.Bench.{Bench}
+use Rattle.bench.specs.Sets.{has}
+use Rattle.bench.specs.Changes.{noticeOf, inState}
+use Rattle.tables.specs.Rows.{rows, logs}
+use Rattle.tables.specs.Steps.{acted, stored}
+use Rattle.tables.specs.Runs.{stateOf, takenBy, noticedBy, benchOf, runBy, runOf}
+use Rattle.tables.specs.Sound.{Fit, Sound}
+use Rattle.tables.specs.Meets.{Links}
+use Rattle.tables.proofs.Sets.{joined-same, joined-other}
+use Rattle.tables.proofs.Change.{bench-path, remains, idle}
+
+module _ (N R : ℕ) where
+  -- in state 4 or above a bench takes no part any more
+  fit-gone : (b : Bench) (st : ℕ) → 4 ≤ st → Fit N R b → Fit N R (inState st b)
+  unfolding inState
+  fit-gone b st h f = record {
+    size = f .size;
+    top = f .top;
+    live = λ e. absurd (omega arith);
+    fresh = λ e. absurd (omega arith);
+    running = λ e. absurd (omega arith);
+    decided = λ e. absurd (omega arith);
+    abstained = λ e. absurd (omega arith);
+  }
+
+  fit-notice : (b : Bench) (j : ℕ) → Fit N R b → Fit N R (noticeOf b j)
+  unfolding noticeOf
+  fit-notice b j f =
+      record { size = f .size; top = f .top; live = f .live; fresh = f .fresh; running = f .running; decided = f .decided; abstained = f .abstained }
+
+  noticed-put : (a j : ℕ) → noticedBy (bitOr a (2 ^ j)) ≡ put (noticedBy a) (suc j) true
+  unfolding noticedBy
+  noticed-put a j = fun-ext go
+    where
+      go : (f : ℕ) → noticedBy (bitOr a (2 ^ j)) f ≡ put (noticedBy a) (suc j) true f
+      go zero = sym (put-other (noticedBy a) (suc j) true 0 (λ e. absurd (omega arith)))
+      go (suc i) = put-ind (λ (y : Bool). has (bitOr a (2 ^ j)) i ≡ y) (noticedBy a) (suc j) true (suc i)
+          (λ e. let p : i ≡ j = omega arith in rw p (joined-same a j))
+          (λ e. joined-other a j i (λ p. e (omega arith)))
+
+  module _ (t l : List (List ℕ)) (s : Sound N R t l) (k : ℕ) (h : k < N) where
+    abbrev b : Bench
+    b = rows N t k
+
+    pub goes-quietly : (st : ℕ) → 4 ≤ st
+        → Links N R (acted (stored N t l k (inState st b))) (done (put (runOf N R t l) (suc k) (published.inState (stateOf st) (runOf N R t l (suc k)))))
+    unfolding inState published.inState benchOf runOf runBy takenBy
+    goes-quietly st hs =
+        remains N R t l s k h (inState st b) (idle N R t l s k h (inState st b) (fit-gone b st hs (s .ok .fit k)) refl refl refl refl) _
+        (bench-path _ _ refl refl refl refl refl (fun-ext same) refl refl)
+      where
+        same : (f : ℕ) → takenBy R (logs l) k (inState st b) f ≡ takenBy R (logs l) k b f
+        same zero = refl
+        same (suc j) = refl
+
+    pub notices : (j : ℕ) → Links N R (acted (stored N t l k (noticeOf b j))) (done (put (runOf N R t l) (suc k) (noticing (suc j) (runOf N R t l (suc k)))))
+    unfolding noticeOf noticing benchOf runOf runBy takenBy
+    notices j =
+        remains N R t l s k h (noticeOf b j) (idle N R t l s k h (noticeOf b j) (fit-notice b j (s .ok .fit k)) refl refl refl refl) _
+        (bench-path _ _ refl refl refl refl refl (fun-ext same) (noticed-put (b .noticed) j) refl)
+      where
+        same : (f : ℕ) → takenBy R (logs l) k (noticeOf b j) f ≡ takenBy R (logs l) k b f
+        same zero = refl
+        same (suc i) = refl

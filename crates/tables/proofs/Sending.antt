@@ -1,0 +1,181 @@
+-- A bench sends OUT, or the message of its next round: on the tables as in the published run. Assumes nothing.
+use mathlib.Core.Path.{_≡_, refl, sym, ap, _∙_, fun-ext}
+use mathlib.Core.Bool.{false}
+use mathlib.Core.List.{List, [], _∷_, _++_, append-nil}
+use Prim.Native.Nat.{ℕ, zero, suc, _+_, _-_, _^_, _≤_, _<_}
+use native.Mathlib.Omega.{arith}
+use lib.Dec.{eqb}
+use lib.ListN.{getD, length, set, length-set}
+use lib.Seq.{getD-set-same, getD-set-other, set-set}
+use borrow.Author.Tests.{eqb-true, eqb-false}
+use Rattle.published.specs.Rounds as published
+use Rattle.published.specs.Rounds.{put, done, entering, sending}
+use Rattle.published.proofs.Tests.{split, clash}
+use Rattle.published.proofs.Updates.{put-same, put-other}
+use Rattle.kinds.specs.declared.Message.{Message}
+use Rattle.kinds.specs.declared.Message.the-variants.{Round, Out}
+use Rattle.bench.specs.declared.Bench.{Bench}
+use Rattle.bench.specs.Changes.{takenOf, outOf, takeOf, inRound, sentTo, sentOut}
+use Rattle.tables.specs.Rows.{rows, logs}
+use Rattle.tables.specs.Steps.{acted, stored, putAt, sentOf}
+use Rattle.tables.specs.Runs.{roundsOf, lineOf, stateOf, takenBy, decisionOf, benchOf, runBy, runOf}
+use Rattle.tables.specs.Sound.{Sound}
+use Rattle.tables.specs.Meets.{Links}
+use Rattle.tables.proofs.Sets.{joined-same, joined-other}
+use Rattle.tables.proofs.Lines.{Keeps, keeps-all, rounds-kept}
+use Rattle.tables.proofs.Change.{bench-path, Becomes, changes, remains}
+
+-- ---- a log with one round more
+
+module _ (R : ℕ) (log : List ℕ) (q v w : ℕ) (size : length log ≡ R + R) (h : q < R) where
+  abbrev longer : List ℕ
+  longer = set (set log q v) (q + R) w
+
+  longer-size : length longer ≡ R + R
+  longer-size = length-set (set log q v) (q + R) w ∙ length-set log q v ∙ size
+
+  longer-keeps : Keeps R log longer q
+  longer-keeps i l = (
+    getD-set-other (set log q v) (q + R) i w 0 (λ e. absurd (omega arith)) ∙ getD-set-other log q i v 0 (λ e. absurd (omega arith)),
+    getD-set-other (set log q v) (q + R) (i + R) w 0 (λ e. absurd (omega arith)) ∙ getD-set-other log q (i + R) v 0 (λ e. absurd (omega arith)),
+  )
+
+  longer-value : getD longer q 0 ≡ v
+  longer-value = getD-set-other (set log q v) (q + R) q w 0 (λ e. absurd (omega arith)) ∙ getD-set-same log q v 0 (omega (arith, size))
+
+  longer-world : getD longer (q + R) 0 ≡ w
+  longer-world = getD-set-same (set log q v) (q + R) w 0 (omega (arith, size, length-set log q v))
+
+  longer-rounds : roundsOf R longer (suc q) ≡ roundsOf R log q ++ (published.Round (suc q) v w ∷ [])
+  unfolding roundsOf
+  longer-rounds = rw (rounds-kept R log longer q longer-keeps q (omega arith), longer-value, longer-world) refl
+
+-- both entries go into the one log
+log-put : (l : List (List ℕ)) (k i j v w : ℕ) → k < length l → putAt (putAt l k i v) k j w ≡ set l k (set (set (getD l k []) i v) j w)
+log-put l k i j v w h =
+    ap (λ (r : List ℕ). set (putAt l k i v) k (set r j w)) (getD-set-same l k (set (getD l k []) i v) [] h)
+    ∙ set-set l k (set (getD l k []) i v) (set (set (getD l k []) i v) j w)
+
+-- ---- what a bench that sends OUT or a round message is
+
+-- bench b in state st, with `chose` as given
+unfoldable pub withState : ℕ → ℕ → Bench → Bench
+withState st chose b = record { state = st; round = b .round; value = b .value; world = b .world; outs = b .outs; noticed = b .noticed; sent = b .sent; out = b .out; chose = chose; taken = b .taken }
+
+-- the published bench x in a state and with a decision
+unfoldable pub withDecision : published.State → published.Decision → published.Bench → published.Bench
+withDecision st d x = record { state = st; round = x .round; value = x .value; world = x .world; sent = x .sent; taken = x .taken; noticed = x .noticed; decision = d }
+
+abbrev pub message : ℕ → ℕ → ℕ → Message
+message r v w = Round (record { round = record { 0 = r }; value = record { 0 = v }; world = w })
+
+module _ (N R : ℕ) (t l : List (List ℕ)) (s : Sound N R t l) (k : ℕ) (h : k < N) where
+  abbrev b : Bench
+  b = rows N t k
+
+  abbrev x : published.Bench
+  x = runOf N R t l (suc k)
+
+  size : length (b .taken) ≡ N
+  size = s .ok .fit k .size
+
+  -- ---- OUT
+
+  module _ (st chose : ℕ) (quiet : eqb (b .out) 1 ≡ false) (h₂ : 2 ≤ st) (decided : st ≡ 2 → 1 ≤ b .sent) (abstained : st ≡ 3 → b .sent ≡ 0) where
+    abbrev parted : Bench
+    parted = sentOut (takeOf (withState st chose b) k Out)
+
+    parted-becomes : Becomes N R (rows N t) (logs l) k parted (logs l k)
+    unfolding sentOut takeOf outOf withState
+    parted-becomes = record {
+      size = s .places k h;
+      keeps = keeps-all R (logs l k) (b .sent);
+      grows = record { more = omega arith; still = λ g. clash (cc) };
+      fit = record {
+        size = size;
+        top = s .ok .fit k .top;
+        live = λ p. absurd (omega arith);
+        fresh = λ p. absurd (omega arith);
+        running = λ p. absurd (omega arith);
+        decided = decided;
+        abstained = abstained;
+      };
+      own = s .ok .own k;
+      own-out = joined-same (b .outs) k;
+      line = λ j n. s .ok .line k j;
+      end = λ j n o. s .ok .end k j (sym (joined-other (b .outs) k j n) ∙ o);
+      worlds = λ i hi. s .ok .worlds k i hi;
+    }
+
+    pub sends-out : Links N R (acted (sentOf N R t l k (withState st chose b) Out))
+        (done (put (runOf N R t l) (suc k) (sending published.Out (withDecision (stateOf st) (decisionOf chose (b .value .0)) x))))
+    unfolding sentOf sentOut takeOf outOf withState withDecision sending runOf runBy benchOf takenBy lineOf
+    sends-out = remains N R t l s k h parted parted-becomes _ (bench-path _ _ refl refl refl refl (rw (quiet, append-nil) refl) (fun-ext same) refl refl)
+      where
+        same : (f : ℕ) → takenBy R (logs l) k parted f ≡ takenBy R (logs l) k b f
+        same zero = refl
+        same (suc j) = split (eqb j k) (λ c. rw c refl) (λ c. rw (joined-other (b .outs) k j (eqb-false j k c)) refl)
+
+  -- ---- the next round's message
+
+  module _ (v w : ℕ) (hw : w < 2 ^ N) (live : b .state ≤ 1) (room : b .sent < R) where
+    abbrev q : ℕ
+    q = b .sent
+
+    abbrev entered : Bench
+    entered = sentTo (suc q) (takenOf (inRound (suc q) (record { 0 = v }) w b) k (suc q))
+
+    abbrev log : List ℕ
+    log = set (set (getD l k []) q v) (q + R) w
+
+    entered-becomes : Becomes N R (rows N t) (logs l) k entered log
+    unfolding sentTo takenOf inRound
+    entered-becomes = record {
+      size = longer-size R (getD l k []) q v w (s .places k h) room;
+      keeps = longer-keeps R (getD l k []) q v w (s .places k h) room;
+      grows = record { more = omega arith; still = λ g. let e = s .ok .fit k .live live .0 in clash (cc) };
+      fit = record {
+        size = length-set (b .taken) k (suc q) ∙ size;
+        top = room;
+        live = λ e. s .ok .fit k .live live;
+        fresh = λ e. absurd (omega arith);
+        running = λ e. (refl, omega arith, hw);
+        decided = λ e. absurd (omega arith);
+        abstained = λ e. absurd (omega arith);
+      };
+      own = getD-set-same (b .taken) k (suc q) 0 (omega (arith, size));
+      own-out = s .ok .own-out k;
+      line = λ j n. rw (getD-set-other (b .taken) k j (suc q) 0 n) (s .ok .line k j);
+      end = λ j n o. let e = s .ok .end k j o in (e .0, getD-set-other (b .taken) k j (suc q) 0 n ∙ e .1);
+      worlds = λ i hi. split (eqb i q)
+          (λ c. rw (eqb-true i q c, longer-world R (getD l k []) q v w (s .places k h) room) hw)
+          (λ c. let c′ = eqb-false i q c in rw (longer-keeps R (getD l k []) q v w (s .places k h) room i (omega arith) .1) (s .ok .worlds k i (omega arith)));
+    }
+
+    taken-same : takenBy R (put (logs l) k log) k entered ≡ takenBy R (logs l) k b
+    unfolding takenBy sentTo takenOf inRound
+    taken-same = fun-ext go
+      where
+        go : (f : ℕ) → takenBy R (put (logs l) k log) k entered f ≡ takenBy R (logs l) k b f
+        go zero = refl
+        go (suc j) = split (eqb j k)
+            (λ c. rw c refl)
+            (λ c. let n = eqb-false j k c in rw (put-other (logs l) k log j n, getD-set-other (b .taken) k j (suc q) 0 n) refl)
+
+    entered-is : benchOf R (put (logs l) k log) k entered ≡ entering (suc q) v w (benchOf R (logs l) k b)
+    unfolding benchOf sentTo takenOf inRound entering sending published.inRound stateOf lineOf decisionOf
+    entered-is = bench-path _ _ refl refl refl refl
+        (rw (put-same (logs l) k log, s .ok .fit k .live live .0, append-nil (roundsOf R log (suc q)), append-nil (roundsOf R (getD l k []) q))
+        (longer-rounds R (getD l k []) q v w (s .places k h) room))
+        taken-same refl (rw (s .ok .fit k .live live .1) refl)
+
+    enters : Links N R (acted (stored N t (set l k log) k entered)) (done (put (runOf N R t l) (suc k) (entering (suc q) v w x)))
+    unfolding runOf runBy
+    enters = changes N R t l s k h entered log entered-becomes (entering (suc q) v w (benchOf R (logs l) k b)) entered-is
+
+    pub sends-round : (r : ℕ) → r ≡ suc q
+        → Links N R (acted (sentOf N R t l k (inRound r (record { 0 = v }) w b) (message r v w))) (done (put (runOf N R t l) (suc k) (entering r v w x)))
+    unfolding sentOf takeOf
+    sends-round r e =
+        let p : suc q - 1 ≡ q = omega arith in
+        rw (e, p, log-put l k q (q + R) v w (omega (arith, s .books))) enters

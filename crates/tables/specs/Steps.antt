@@ -1,0 +1,157 @@
+-- The seven steps on the two tables, for N benches and R rounds: the answer and both tables after, for all tables that can be handed in.
+use mathlib.Core.Path.{_≡_}
+use mathlib.Core.Bool.{Bool, true, false, cond, not, _&&_, _||_}
+use Prim.Native.Nat.{ℕ, zero, suc, _+_, _-_, _^_}
+use mathlib.Core.List.{List, [], _∷_}
+use lib.Dec.{eqb, ltb}
+use lib.ListN.{getD, set, replicate}
+use Rattle.published.specs.Rounds.{Step, start, abstain, leave, fail, turn, arrive, notice, isBench}
+use Rattle.kinds.specs.declared.Message.{Message}
+use Rattle.kinds.specs.declared.Message.the-variants.{Round, Out}
+use Rattle.bench.specs.declared.Bench.{Bench}
+use Rattle.bench.specs.declared.Waiting.{Waiting}
+use Rattle.bench.specs.declared.Waiting.the-variants.{Next, Nothing}
+use Rattle.bench.specs.declared.Turned.{Turned}
+use Rattle.bench.specs.declared.Answer.{Answer}
+use Rattle.bench.specs.declared.Answer.the-variants.{Decided, Went, Refused}
+use Rattle.bench.specs.Sets.{has, some}
+use Rattle.bench.specs.Changes.{takeOf, noticeOf, inState, inRound, sentTo, sentOut}
+use Rattle.bench.specs.Turns.{turnOf}
+use Rattle.tables.specs.Rows.{rowOf, rows, logs}
+use Rattle.tables.specs.Lines.{waitingOf, heardOf}
+
+pub record Tables : Type 0 where
+  pub benches : List (List ℕ)
+  pub logs : List (List ℕ)
+
+-- the answer and both tables of a step
+pub record Act : Type 0 where
+  pub answer : ℕ
+  pub tables : Tables
+
+-- an answer and two tables are those of a step: what every step promises
+pub record Acts (r : ℕ) (t l : List (List ℕ)) (e : Act) : Type 0 where
+  pub answer : r ≡ e .answer
+  pub benches : t ≡ e .tables .benches
+  pub logs : l ≡ e .tables .logs
+
+abbrev pub refused : ℕ → List (List ℕ) → List (List ℕ) → Act
+refused n t l = record { answer = n; tables = record { benches = t; logs = l } }
+
+abbrev pub acted : Tables → Act
+acted e = record { answer = 0; tables = e }
+
+-- bench k is now b
+abbrev pub stored : ℕ → List (List ℕ) → List (List ℕ) → ℕ → Bench → Tables
+stored N t l k b = record { benches = set t k (rowOf N b); logs = l }
+
+-- v at place i of row k
+abbrev pub putAt : List (List ℕ) → ℕ → ℕ → ℕ → List (List ℕ)
+putAt l k i v = set l k (set (getD l k []) i v)
+
+-- bench k, now b, sends a message: it stands in its log, and the bench has it at once
+unfoldable pub sentOf : ℕ → ℕ → List (List ℕ) → List (List ℕ) → ℕ → Bench → Message → Tables
+sentOf N R t l k b (Round m) =
+    stored N t (putAt (putAt l k (m .round .0 - 1) (m .value .0)) k (m .round .0 - 1 + R) (m .world)) k (sentTo (m .round .0) (takeOf b k (Round m)))
+sentOf N R t l k b Out = stored N t l k (sentOut (takeOf b k Out))
+
+-- ---- the steps at place k, and from place j
+
+-- bench j is running or decided, and not in the world
+unfoldable pub leftOutAt : List (List ℕ) → ℕ → ℕ → Bool
+leftOutAt t w j = (eqb (getD (getD t j []) 0 0) 1 || eqb (getD (getD t j []) 0 0) 2) && not (has w j)
+
+unfoldable pub leavesOut : ℕ → List (List ℕ) → ℕ → Bool
+leavesOut N t w = some (leftOutAt t w) N
+
+-- bench j ever started, with a world without bench k
+unfoldable pub shutOutAt : ℕ → List (List ℕ) → List (List ℕ) → ℕ → ℕ → Bool
+shutOutAt R t l k j = ltb 0 (getD (getD t j []) 6 0) && not (has (getD (getD l j []) R 0) k)
+
+unfoldable pub shutsOut : ℕ → ℕ → List (List ℕ) → List (List ℕ) → ℕ → Bool
+shutsOut N R t l k = some (shutOutAt R t l k) N
+
+unfoldable pub startAt : ℕ → ℕ → List (List ℕ) → List (List ℕ) → ℕ → ℕ → ℕ → Act
+startAt N R t l v w k =
+    cond (eqb (rows N t k .state) 0)
+    (cond (ltb 65535 v) (refused 4 t l)
+    (cond (ltb w (2 ^ N) && has w k)
+    (cond (leavesOut N t w) (refused 6 t l)
+    (cond (shutsOut N R t l k) (refused 7 t l)
+    (acted (sentOf N R t l k (inRound 1 (record { 0 = v }) w (rows N t k)) (Round (record { round = record { 0 = 1 }; value = record { 0 = v }; world = w }))))))
+    (refused 5 t l)))
+    (refused 3 t l)
+
+unfoldable pub abstainAt : ℕ → ℕ → List (List ℕ) → List (List ℕ) → ℕ → Act
+abstainAt N R t l k = cond (eqb (rows N t k .state) 0) (acted (sentOf N R t l k (inState 3 (rows N t k)) Out)) (refused 3 t l)
+
+unfoldable pub leaveAt : ℕ → ℕ → List (List ℕ) → List (List ℕ) → ℕ → Act
+leaveAt N R t l k =
+    cond (ltb 3 (rows N t k .state)) (refused 3 t l)
+    (acted (cond (eqb (rows N t k .out) 1) (stored N t l k (inState 4 (rows N t k))) (sentOf N R t l k (inState 4 (rows N t k)) Out)))
+
+unfoldable pub failAt : ℕ → List (List ℕ) → List (List ℕ) → ℕ → Act
+failAt N t l k = cond (ltb 3 (rows N t k .state)) (refused 3 t l) (acted (stored N t l k (inState 5 (rows N t k))))
+
+unfoldable pub turnBy : ℕ → ℕ → List (List ℕ) → List (List ℕ) → ℕ → Bench → Answer → Act
+turnBy N R t l k b (Decided v m) = acted (sentOf N R t l k b m)
+turnBy N R t l k b (Went m) = acted (sentOf N R t l k b m)
+turnBy N R t l k b (Refused n) = refused n t l
+
+unfoldable pub turnOn : ℕ → ℕ → List (List ℕ) → List (List ℕ) → ℕ → Turned → Act
+turnOn N R t l k r = turnBy N R t l k (r .bench) (r .answer)
+
+unfoldable pub turnAt : ℕ → ℕ → List (List ℕ) → List (List ℕ) → ℕ → Act
+turnAt N R t l k = turnOn N R t l k (turnOf N R (rows N t k) (heardOf N R l (rows N t k)))
+
+unfoldable pub takeNext : ℕ → List (List ℕ) → List (List ℕ) → ℕ → ℕ → Waiting → Act
+takeNext N t l k j (Next m) = acted (stored N t l k (takeOf (rows N t k) j m))
+takeNext N t l k j Nothing = refused 8 t l
+
+-- what waits for bench k on the line from bench j
+unfoldable pub nextOn : ℕ → ℕ → List (List ℕ) → List (List ℕ) → ℕ → ℕ → Waiting
+nextOn N R t l k j = waitingOf R (logs l j) (getD (rows N t k .taken) j 0) (has (rows N t k .outs) j) (rows N t j .sent) (rows N t j .out)
+
+unfoldable pub arriveAt : ℕ → ℕ → List (List ℕ) → List (List ℕ) → ℕ → ℕ → Act
+arriveAt N R t l k j =
+    cond (ltb 1 (rows N t k .state)) (refused 3 t l)
+    (cond (has (rows N t k .noticed) j) (refused 9 t l) (takeNext N t l k j (nextOn N R t l k j)))
+
+unfoldable pub noticeAt : ℕ → List (List ℕ) → List (List ℕ) → ℕ → ℕ → Act
+noticeAt N t l k j =
+    cond (ltb 1 (rows N t k .state)) (refused 3 t l)
+    (cond (ltb 4 (rows N t j .state))
+    (cond (has (rows N t k .noticed) j) (refused 9 t l) (acted (stored N t l k (noticeOf (rows N t k) j))))
+    (refused 10 t l))
+
+-- ---- the steps
+
+-- check 1, and the bench's place
+unfoldable pub atBench : ℕ → List (List ℕ) → List (List ℕ) → (ℕ → Act) → ℕ → Act
+atBench N t l f b = cond (isBench N b) (f (b - 1)) (refused 1 t l)
+
+-- checks 1 and 2, and the places of the bench and of the sender
+unfoldable pub atBenches : ℕ → List (List ℕ) → List (List ℕ) → (ℕ → ℕ → Act) → ℕ → ℕ → Act
+atBenches N t l g b f = cond (isBench N b && isBench N f) (cond (eqb b f) (refused 2 t l) (g (b - 1) (f - 1))) (refused 1 t l)
+
+unfoldable pub tableStep : ℕ → ℕ → List (List ℕ) → List (List ℕ) → Step → Act
+tableStep N R t l (start b v w) = atBench N t l (startAt N R t l v w) b
+tableStep N R t l (abstain b) = atBench N t l (abstainAt N R t l) b
+tableStep N R t l (leave b) = atBench N t l (leaveAt N R t l) b
+tableStep N R t l (fail b) = atBench N t l (failAt N t l) b
+tableStep N R t l (turn b) = atBench N t l (turnAt N R t l) b
+tableStep N R t l (arrive b f) = atBenches N t l (arriveAt N R t l) b f
+tableStep N R t l (notice b f) = atBenches N t l (noticeAt N t l) b f
+
+-- ---- lists of steps
+
+unfoldable pub tablesFrom : ℕ → ℕ → Tables → List Step → Tables
+tablesFrom N R e [] = e
+tablesFrom N R e (a ∷ l) = tablesFrom N R (tableStep N R (e .benches) (e .logs) a .tables) l
+
+unfoldable pub tableAnswers : ℕ → ℕ → Tables → List Step → List ℕ
+tableAnswers N R e [] = []
+tableAnswers N R e (a ∷ l) = tableStep N R (e .benches) (e .logs) a .answer ∷ tableAnswers N R (tableStep N R (e .benches) (e .logs) a .tables) l
+
+unfoldable pub emptyTables : ℕ → ℕ → Tables
+emptyTables N R = record { benches = replicate N (replicate (9 + N) 0); logs = replicate N (replicate (R + R) 0) }
