@@ -1,0 +1,29 @@
+-- `ledger::joining::row_of` meets its contract: outside 1 to 16 there are no seats.
+use mathlib.Core.Path.{_≡_, sym, _∙_}
+use Prim.Native.Nat.{ℕ}
+use lib.ListN.{length, length-map}
+use Rattle.ledger.specs.Seen.{rowIs}
+use Rattle.ledger.proofs.Seating.{rows-outside}
+use Rattle.ledger.proofs.Answered.{is-no-sender, is-sender}
+use borrow.Author.Needs.{needs}
+use Rattle.ledger.proofs.joining.row_of.Statement.{statement}
+use Rattle.ledger.proofs.joining.row_of.Tie as tie
+
+is-sender-requires : tie.Need-is-sender-requires
+is-sender-requires c κs = search needs
+
+returns : tie.Need-returns
+unfolding rowIs
+returns c =
+    let z = c .before .before .args in
+    let seats : _≡_ {A = ℕ} (length (z .ledger .seats)) 16 = sym (length-map (z .ledger .seats) _) ∙ c .before .before .good .0 .1 .1 .1 .0 .1 .0 .1 in
+    sym (rows-outside (z .ledger .seats) (z .sender .0) seats (search is-no-sender))
+
+seat-of-requires : tie.Need-seat-of-requires
+seat-of-requires c κs = search is-sender
+
+returns-2 : tie.Need-returns-2
+returns-2 c = search needs
+
+pub row-of-spec : {M : Type 1} → statement M
+row-of-spec = tie.close (tie.spec is-sender-requires returns seat-of-requires returns-2)

@@ -1,0 +1,78 @@
+// The room for sweeps: 1,024 words, of which the first ones hold a sweep each, in order of arrival.
+ghost use mathlib.Core.Path.{_≡_};
+ghost use Prim.Native.Nat.{_≤_, min};
+ghost use lib.ListN.{length};
+ghost use Rattle.ledger.specs.Seen.{sweepOf};
+ghost use Rattle.ledger.specs.Words.{within, TakesOut};
+use kinds::BenchNo;
+use kinds::SlotNo;
+
+// The sweeps that a step takes out: those of a slot, or those of a sender from a slot on.
+pub(crate) enum Part {
+    Of(SlotNo),
+    From(BenchNo, SlotNo),
+}
+
+// The word of a sweep.
+pub(crate) fn word(sender: BenchNo, slot: SlotNo, tag: u32) -> u64
+    requires { ⌜ (sender .0 ≤ 16) × (slot .0 ≤ 65534) ⌝ }
+    ensures { λ r. ⌜ sweepOf r ≡ record { sender = sender .0; slot = slot .0; tag = tag } ⌝ }
+{
+    sender.0 as u64 * 281474976710656 + slot.0 as u64 * 4294967296 + tag as u64
+}
+
+pub(crate) fn sender_of(w: u64) -> u64
+    ensures { λ r. ⌜ r ≡ sweepOf w .sender ⌝ }
+{
+    w / 281474976710656
+}
+
+pub(crate) fn slot_of(w: u64) -> u64
+    ensures { λ r. ⌜ r ≡ sweepOf w .slot ⌝ }
+{
+    w / 4294967296 % 65536
+}
+
+pub(crate) fn tag_of(w: u64) -> u32
+    ensures { λ r. ⌜ r ≡ sweepOf w .tag ⌝ }
+{
+    (w % 4294967296) as u32
+}
+
+fn is_in(w: u64, part: Part) -> bool
+    ensures { λ r. ⌜ r ≡ within part (sweepOf w) ⌝ }
+{
+    match part {
+        Part::Of(slot) => slot_of(w) == slot.0 as u64,
+        Part::From(sender, slot) => {
+            if sender_of(w) != sender.0 as u64 {
+                return false;
+            }
+            slot.0 as u64 <= slot_of(w)
+        }
+    }
+}
+
+// Takes a part out of the first `held` words: what is left moves to the front, in order, and the words past it stay. How many are left.
+pub(crate) fn take_out(room: &mut [u64], held: usize, part: Part) -> usize
+    requires { ⌜ held ≤ length (now room) ⌝ }
+    ensures { λ r. ⌜ TakesOut (within part) held (now (room .entry)) r (now (room .exit)) ⌝ }
+{
+    let mut k: usize = 0;
+    let mut i: usize = 0;
+    while i < held {
+        let w = room[i];
+        if !is_in(w, part) {
+            room[k] = w;
+            k += 1;
+        }
+        i += 1;
+    }
+    k
+}
+
+pub(crate) fn lesser(a: usize, b: usize) -> usize
+    ensures { λ r. ⌜ r ≡ min a b ⌝ }
+{
+    if a < b { a } else { b }
+}

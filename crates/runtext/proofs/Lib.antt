@@ -1,0 +1,16 @@
+pub mod Places
+pub mod Keys
+pub mod Stores
+pub mod Digits
+pub mod Decimals
+pub mod NumberTrip
+pub mod Members
+pub mod WorldTrip
+pub mod StepTrip
+pub mod Lines
+pub mod LineTrip
+pub mod Answers
+pub mod TextTrip
+pub mod Turns
+pub mod Theorems
+pub mod Examples
