@@ -1,7 +1,7 @@
 #!/usr/bin/env python3
 """Compares the proved programs with the second program on generated texts.
 
-    compare.py [--lines N] [--first SEED]
+    compare.py [--lines N] [--first SEED] [--kind run|ledger]
 
 Both are given the same texts, made by generate.py from rising seeds, until N lines (1,000,000 if nothing is said) have been compared.
 It fails at the first difference, which it shrinks and prints, and if some refusal number that a text can meet was not met.
@@ -9,6 +9,7 @@ It fails at the first difference, which it shrinks and prints, and if some refus
 
 import argparse
 import collections
+import itertools
 import multiprocessing
 import os
 import re
@@ -81,13 +82,10 @@ def compared(job):
     return kind, seed, lines, met, data if ours != other or ours[0] else None
 
 
-def jobs(first, second):
-    """Texts without end: three run texts, then a ledger script."""
-    seed = first
-    while True:
-        for kind in ("run", "run", "run", "ledger"):
-            yield kind, seed, second
-            seed += 1
+def jobs(kinds, first, second):
+    """Texts without end, of the kinds in turn."""
+    for at in itertools.count():
+        yield kinds[at % len(kinds)], first + at, second
 
 
 def show(kind, seed, data, second):
@@ -105,12 +103,14 @@ def main():
     parser = argparse.ArgumentParser(description=__doc__, formatter_class=argparse.RawDescriptionHelpFormatter)
     parser.add_argument("--lines", type=int, default=1_000_000)
     parser.add_argument("--first", type=int, default=1)
+    parser.add_argument("--kind", choices=sorted(PROVED), help="only texts of this kind")
     options = parser.parse_args()
+    kinds = [options.kind] if options.kind else ["run", "run", "run", "ledger"]
     began = shown = time.time()
     lines, texts, met = collections.Counter(), collections.Counter(), collections.defaultdict(set)
     with tempfile.TemporaryDirectory() as folder, multiprocessing.Pool(os.cpu_count()) as pool:
         second = programs.second(folder)
-        for kind, seed, count, numbers, difference in pool.imap_unordered(compared, jobs(options.first, second), chunksize=4):
+        for kind, seed, count, numbers, difference in pool.imap_unordered(compared, jobs(kinds, options.first, second), chunksize=4):
             if difference is not None:
                 pool.terminate()
                 show(kind, seed, difference, second)
@@ -124,11 +124,11 @@ def main():
             if sum(lines.values()) >= options.lines:
                 pool.terminate()
                 break
-    for kind, wanted in MUST_MEET.items():
-        if wanted - met[kind]:
-            print(f"compare: no {kind} text met {sorted(wanted - met[kind])}")
+    for kind in lines:
+        if MUST_MEET[kind] - met[kind]:
+            print(f"compare: no {kind} text met {sorted(MUST_MEET[kind] - met[kind])}")
             return 1
-    said = ", ".join(f"{lines[kind]} lines of {texts[kind]} {kind} texts" for kind in MUST_MEET)
+    said = ", ".join(f"{lines[kind]} lines of {texts[kind]} {kind} texts" for kind in lines)
     print(f"compare: {said}; no difference; {time.time() - began:.0f} s")
     return 0
 

@@ -6,5 +6,4 @@ pub mod Moving
 pub mod Starting
 pub mod Numbers
 pub mod Reading
-pub mod Local
 pub mod Settled

@@ -13,7 +13,8 @@ use Rattle.bench.proofs.Numbers.{bench-first}
 use Rattle.tables.specs.Rows.{rows, logs}
 use Rattle.tables.specs.Runs.{lineOf, stateOf, decisionOf, benchOf, runBy, runOf}
 use Rattle.rounds.specs.declared.Decision.the-variants.{None, Chosen}
-use Rattle.rounds.specs.Reads.{stateWord, sentWord, decisionAt, decisionIs}
+use Rattle.rounds.specs.Decisions.{decisionIs}
+use Rattle.rounds.specs.Reads.{stateWord, sentWord, decisionAt}
 
 module _ (t : List (List ℕ)) (b : ℕ) (q : Bool) (is-q : q ≡ isBench 16 b) where
   module _ (unknown : not q ≡ true) where

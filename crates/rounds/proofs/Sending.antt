@@ -1,19 +1,18 @@
--- A bench sends: its message has room in its log, and it takes it at its own place. Assumes nothing.
-use mathlib.Core.Path.{_≡_, refl, ap, _∙_}
+-- A bench sends: its message has room in its log, and only its own words have changed. Assumes nothing.
+use mathlib.Core.Path.{_≡_, refl}
 use mathlib.Core.List.{List}
 use Prim.Native.Nat.{ℕ, _+_, _-_, _<_, _≤_}
 use native.Mathlib.Omega.{arith}
 use lib.ListN.{set}
-use borrow.Author.Tests.{le-leb}
-use Rattle.published.specs.Rounds.{isBench}
+use Rattle.kinds.specs.declared.SlotNo.{SlotNo}
 use Rattle.kinds.specs.declared.RoundMessage.{RoundMessage}
 use Rattle.kinds.specs.declared.Message.{Message}
 use Rattle.kinds.specs.declared.Message.the-variants.{Round, Out}
 use Rattle.bench.specs.declared.Bench.{Bench}
-use Rattle.bench.specs.Changes.{takeOf, takeFrom, sentTo, sentOut}
+use Rattle.bench.specs.Changes.{takeOf, takenOf, outOf, inState, inRound, sentTo, sentOut}
 use Rattle.tables.specs.Rows.{rowOf}
 use Rattle.tables.specs.Steps.{Acts, acted, putAt, sentOf}
-use Rattle.rounds.specs.Rooms.{HasRoom}
+use Rattle.rounds.specs.Sending.{HasRoom, Keeps}
 
 module _ (m : Message) (rm : RoundMessage) (is-m : m ≡ Round rm) (room : HasRoom m) where
   inside : HasRoom (Round rm)
@@ -28,20 +27,22 @@ module _ (m : Message) (rm : RoundMessage) (is-m : m ≡ Round rm) (room : HasRo
   pub room-world : rm .round .0 - 1 + 96 < 192
   room-world = omega (arith, inside)
 
-take-own : (b : Bench) (k : ℕ) (m : Message) → k < 16 → takeFrom 16 b (k + 1) m ≡ takeOf b k m
-unfolding takeFrom isBench
-take-own b k m h = let e : k + 1 - 1 ≡ k = omega arith in rw (le-leb 1 (k + 1) (omega arith), le-leb (k + 1) 16 (omega arith), e) refl
-
-module _ (t l t′ : List (List ℕ)) (k : ℕ) (b b′ : Bench) (m : Message) (at : k < 16) (is-b : b′ ≡ takeFrom 16 b (k + 1) m) where
-  pub sends-round : (rm : RoundMessage) → m ≡ Round rm → t′ ≡ set t k (rowOf 16 (sentTo (rm .round .0) b′))
+module _ (t l t′ : List (List ℕ)) (k : ℕ) (b : Bench) (m : Message) where
+  pub sends-round : (rm : RoundMessage) → m ≡ Round rm → t′ ≡ set t k (rowOf 16 (sentTo (rm .round .0) (takenOf b k (rm .round .0))))
       → Acts 0 t′ (putAt (putAt l k (rm .round .0 - 1) (rm .value .0)) k (rm .round .0 - 1 + 96) (rm .world)) (acted (sentOf 16 96 t l k b m))
-  unfolding sentOf
-  sends-round rm e d =
-      let own : b′ ≡ takeOf b k (Round rm) = is-b ∙ take-own b k m at ∙ ap (takeOf b k) e in
-      rw e (record { answer = refl; benches = d ∙ ap (λ (x : Bench). set t k (rowOf 16 (sentTo (rm .round .0) x))) own; logs = refl })
+  unfolding sentOf takeOf
+  sends-round rm e d = rw e (record { answer = refl; benches = d; logs = refl })
 
-  pub sends-out : m ≡ Out → t′ ≡ set t k (rowOf 16 (sentOut b′)) → Acts 0 t′ l (acted (sentOf 16 96 t l k b m))
-  unfolding sentOf
-  sends-out e d =
-      let own : b′ ≡ takeOf b k Out = is-b ∙ take-own b k m at ∙ ap (takeOf b k) e in
-      rw e (record { answer = refl; benches = d ∙ ap (λ (x : Bench). set t k (rowOf 16 (sentOut x))) own; logs = refl })
+  pub sends-out : m ≡ Out → t′ ≡ set t k (rowOf 16 (sentOut (outOf b k))) → Acts 0 t′ l (acted (sentOf 16 96 t l k b m))
+  unfolding sentOf takeOf
+  sends-out e d = rw e (record { answer = refl; benches = d; logs = refl })
+
+-- the bench of a row, in another round or state
+module _ (b c : Bench) (same : b ≡ c) where
+  pub keeps-round : (r : ℕ) (v : SlotNo) (w : ℕ) → Keeps (inRound r v w b) c
+  unfolding inRound
+  keeps-round r v w = rw same (record { outs = refl; noticed = refl; sent = refl; out = refl; taken = refl })
+
+  pub keeps-state : (s : ℕ) → Keeps (inState s b) c
+  unfolding inState
+  keeps-state s = rw same (record { outs = refl; noticed = refl; sent = refl; out = refl; taken = refl })

@@ -13,12 +13,12 @@ use Rattle.bench.specs.declared.Heard.{Heard}
 use Rattle.bench.specs.declared.Turned.{Turned}
 use Rattle.bench.specs.declared.Answer.{Answer}
 use Rattle.bench.specs.declared.Answer.the-variants.{Decided, Went, Refused}
-use Rattle.bench.specs.Changes.{inRound}
+use Rattle.bench.specs.Changes.{inRound, choosing}
 use Rattle.bench.specs.Turns.{awaitsOf, forbidsOf, goOnOf, turnOf}
 use Rattle.tables.specs.Rows.{rows}
 use Rattle.tables.specs.Lines.{heardOf}
 use Rattle.tables.specs.Steps.{Acts, acted, sentOf, turnBy, turnOn, turnAt}
-use Rattle.rounds.specs.Rooms.{HasRoom}
+use Rattle.rounds.specs.Sending.{HasRoom, Keeps}
 use Rattle.rounds.proofs.Moving.{refuses}
 
 abbrev Sends : Answer → Type 0
@@ -36,7 +36,23 @@ sends b h =
     (λ f. tt)))
     (λ s. tt)
 
+keeps : (b : Bench) (h : Heard) → Keeps (turnOf 16 96 b h .bench) b
+unfolding turnOf goOnOf inRound choosing
+keeps b h =
+    let k : Keeps b b = record { outs = refl; noticed = refl; sent = refl; out = refl; taken = refl } in
+    let P : Turned → Type 0 = λ r. Keeps (r .bench) b in
+    cond-ind P (eqb (b .state) 1) _ _
+    (λ s. cond-ind P (awaitsOf 16 b h) _ _ (λ a. k)
+    (λ a. cond-ind P (forbidsOf 16 b h) _ _
+    (λ f. cond-ind P (ltb (b .round .0) 96) _ _ (λ e. record { outs = refl; noticed = refl; sent = refl; out = refl; taken = refl }) (λ e. k))
+    (λ f. record { outs = refl; noticed = refl; sent = refl; out = refl; taken = refl })))
+    (λ s. k)
+
 module _ (b : Bench) (h : Heard) (r : Turned) (is-r : r ≡ turnOf 16 96 b h) where
+  -- what is handed back is still the bench that was asked
+  pub turn-keeps : (c : Bench) → b ≡ c → Keeps (r .bench) c
+  turn-keeps c e = rw (is-r, ← e) (keeps b h)
+
   pub room-decided : (v : SlotNo) (m : Message) → r .answer ≡ Decided v m → HasRoom m
   room-decided v m e = subst Sends (sym (ap (λ (x : Turned). x .answer) is-r) ∙ e) (sends b h)
 

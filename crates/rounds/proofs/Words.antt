@@ -1,26 +1,22 @@
--- A word of a bench's row, read and written in place: one word is what the whole bench would be read and written for. For N benches.
+-- The words of a bench's row, read and written in place: what reading and writing the whole bench would give. For N benches.
 -- Assumes nothing; that a row has 9 + N words is a premise.
 use mathlib.Core.Path.{_≡_, refl, sym, ap, _∙_}
 use mathlib.Core.List.{List, [], _∷_}
-use Prim.Native.Nat.{ℕ, zero, suc, _+_, _%_, _^_, _<_}
+use Prim.Native.Nat.{ℕ, zero, suc, _+_, _%_, _^_, _<_, suc-le-suc}
 use native.Mathlib.Omega.{arith}
 use lib.ListN.{length, getD, drop, set, drop-of-length-le, length-set}
-use lib.Seq.{drop-cons}
+use lib.Seq.{drop-cons, set-set, getD-set-same}
 use lib.Bits.{bitOr}
 use Rattle.kinds.specs.declared.RoundMessage.{RoundMessage}
 use Rattle.kinds.specs.declared.Message.{Message}
 use Rattle.kinds.specs.declared.Message.the-variants.{Round, Out}
-use Rattle.bench.specs.Changes.{takeOf, takenOf, outOf, noticeOf, inState}
+use Rattle.bench.specs.declared.Bench.{Bench}
+use Rattle.bench.specs.Changes.{takeOf, takenOf, outOf, noticeOf, inState, sentTo, sentOut}
 use Rattle.bench.proofs.Members.{only-small}
 use Rattle.tables.specs.Rows.{from, ofRow, rowOf, rows}
 use Rattle.tables.specs.Steps.{putAt}
-
-from-drop : (l : List ℕ) (i n : ℕ) → length l ≡ i + n → from l i n ≡ drop i l
-from-drop l i zero e = sym (drop-of-length-le l {i = i} (omega arith))
-from-drop l i (suc n) e = ap (λ (r : List ℕ). getD l i 0 ∷ r) (from-drop l (suc i) n (omega arith)) ∙ sym (drop-cons l i 0 (omega arith))
-
-from-self : (l : List ℕ) (n : ℕ) → length l ≡ n → from l 0 n ≡ l
-from-self l n e = from-drop l 0 n (omega arith)
+use Rattle.tables.proofs.Rows.{from-all}
+use Rattle.rounds.specs.Sending.{Keeps, ownAt}
 
 length-from : (l : List ℕ) (i n : ℕ) → length (from l i n) ≡ n
 length-from l i zero = refl
@@ -31,12 +27,15 @@ get-from l i zero j h = absurd (omega arith)
 get-from l i (suc n) zero h = let e : i ≡ i + 0 = omega arith in ap (λ (p : ℕ). getD l p 0) e
 get-from l i (suc n) (suc j) h = let e : suc i + j ≡ i + suc j = omega arith in get-from l (suc i) n j (omega arith) ∙ ap (λ (p : ℕ). getD l p 0) e
 
+own : Bench → List ℕ → List ℕ
+own b r = set (set (set (set (set r 0 (b .state)) 1 (b .round .0)) 2 (b .value .0)) 3 (b .world)) 8 (b .chose)
+
 module _ (N : ℕ) (l : List ℕ) (full : length l ≡ 9 + N) where
   words : l ≡ getD l 0 0 ∷ getD l 1 0 ∷ getD l 2 0 ∷ getD l 3 0 ∷ getD l 4 0 ∷ getD l 5 0 ∷ getD l 6 0 ∷ getD l 7 0 ∷ getD l 8 0 ∷ from l 9 N
-  words = sym (from-self l (suc (suc (suc (suc (suc (suc (suc (suc (suc N))))))))) (omega arith))
+  words = sym (from-all (suc (suc (suc (suc (suc (suc (suc (suc (suc N))))))))) l (omega arith))
 
   again : from (from l 9 N) 0 N ≡ from l 9 N
-  again = from-self (from l 9 N) N (length-from l 9 N)
+  again = from-all N (from l 9 N) (length-from l 9 N)
 
   state-word : (x : ℕ) → set l 0 x ≡ rowOf N (inState x (ofRow N l))
   unfolding rowOf ofRow inState
@@ -54,7 +53,31 @@ module _ (N : ℕ) (l : List ℕ) (full : length l ≡ 9 + N) where
   unfolding rowOf ofRow takenOf
   taken-word j x =
       let e : 9 + j ≡ suc (suc (suc (suc (suc (suc (suc (suc (suc j)))))))) = omega arith in
-      ap (λ (r : List ℕ). set r (9 + j) x) words ∙ rw (e, from-self (set (from l 9 N) j x) N (length-set (from l 9 N) j x ∙ length-from l 9 N)) refl
+      ap (λ (r : List ℕ). set r (9 + j) x) words ∙ rw (e, from-all N (set (from l 9 N) j x) (length-set (from l 9 N) j x ∙ length-from l 9 N)) refl
+
+  -- a bench that is the row's own but for what it changes itself, and that has sent a round message or OUT
+  module _ (b : Bench) (kept : Keeps b (ofRow N l)) where
+    spoken-words : (k n : ℕ) → set (set (own b l) 6 n) (9 + k) n ≡ rowOf N (sentTo n (takenOf b k n))
+    unfolding rowOf ofRow sentTo takenOf own
+    spoken-words k n =
+        let e : 9 + k ≡ suc (suc (suc (suc (suc (suc (suc (suc (suc k)))))))) = omega arith in
+        ap (λ (r : List ℕ). set (set (own b r) 6 n) (9 + k) n) words
+        ∙ rw (e, kept .outs, kept .noticed, kept .out, kept .taken, from-all N (set (from l 9 N) k n) (length-set (from l 9 N) k n ∙ length-from l 9 N)) refl
+
+    parted-words : (k : ℕ) → set (set (own b l) 4 (bitOr (b .outs) (2 ^ k))) 7 1 ≡ rowOf N (sentOut (outOf b k))
+    unfolding rowOf ofRow sentOut outOf own
+    parted-words k =
+        ap (λ (r : List ℕ). set (set (own b r) 4 (bitOr (b .outs) (2 ^ k))) 7 1) words ∙ rw (kept .noticed, kept .sent, kept .taken, again) refl
+
+-- a table with a full row at k has a place k
+there : (t : List (List ℕ)) (k n : ℕ) → length (getD t k []) ≡ suc n → k < length t
+there [] k n e = absurd (omega arith)
+there (x ∷ t) zero n e = omega arith
+there (x ∷ t) (suc k) n e = suc-le-suc (there t k n e)
+
+-- one word more of row k
+next : (t : List (List ℕ)) (k : ℕ) → k < length t → (u : List (List ℕ)) (r : List ℕ) → u ≡ set t k r → (i x : ℕ) → putAt u k i x ≡ set t k (set r i x)
+next t k h u r e i x = rw e (set-set t k r _ ∙ ap (λ (q : List ℕ). set t k (set q i x)) (getD-set-same t k r [] h))
 
 -- the same in the table
 module _ (N : ℕ) (t : List (List ℕ)) (k : ℕ) where
@@ -76,3 +99,19 @@ module _ (N : ℕ) (t : List (List ℕ)) (k : ℕ) where
     pub puts-out : (j x : ℕ) (m : Message) → j < 16 → x ≡ 2 ^ j % 2 ^ 32 → m ≡ Out → putAt t k 4 (bitOr (getD (getD t k []) 4 0) x) ≡ set t k (rowOf N (takeOf (rows N t k) j m))
     unfolding takeOf
     puts-out j x m h e i = rw (i, e ∙ only-small j (omega arith)) (ap (set t k) (outs-word N (getD t k []) full j))
+
+    module _ (b : Bench) (kept : Keeps b (rows N t k)) where
+      at : k < length t
+      at = there t k (8 + N) (full ∙ omega arith)
+
+      own-written : ownAt t k b ≡ set t k (own b (getD t k []))
+      unfolding ownAt own
+      own-written = next t k at _ _ (next t k at _ _ (next t k at _ _ (next t k at _ _ refl 1 (b .round .0)) 2 (b .value .0)) 3 (b .world)) 8 (b .chose)
+
+      module _ (u : List (List ℕ)) (is-u : u ≡ ownAt t k b) where
+        pub puts-spoken : (n : ℕ) → putAt (putAt u k 6 n) k (9 + k) n ≡ set t k (rowOf N (sentTo n (takenOf b k n)))
+        puts-spoken n = next t k at _ _ (next t k at _ _ (is-u ∙ own-written) 6 n) (9 + k) n ∙ ap (set t k) (spoken-words N (getD t k []) full b kept k n)
+
+        pub puts-parted : (x : ℕ) → k < 16 → x ≡ 2 ^ k % 2 ^ 32 → putAt (putAt u k 4 (bitOr (b .outs) x)) k 7 1 ≡ set t k (rowOf N (sentOut (outOf b k)))
+        puts-parted x h e =
+            rw (e ∙ only-small k (omega arith)) (next t k at _ _ (next t k at _ _ (is-u ∙ own-written) 4 (bitOr (b .outs) (2 ^ k))) 7 1 ∙ ap (set t k) (parted-words N (getD t k []) full b kept k))

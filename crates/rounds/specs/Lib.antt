@@ -1,2 +1,3 @@
-pub mod Rooms
+pub mod Sending
+pub mod Decisions
 pub mod Reads

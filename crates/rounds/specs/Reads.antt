@@ -1,5 +1,4 @@
--- What is read of a bench by its number. Where there is no such bench it reads as fresh. `decisionIs` is to be believed: it says which
--- decision of `published` each case stands for.
+-- What is read of a bench by its number. Where there is no such bench it reads as fresh.
 use mathlib.Core.Bool.{cond}
 use mathlib.Core.List.{List}
 use Prim.Native.Nat.{ℕ, _-_}
@@ -7,12 +6,6 @@ use Rattle.published.specs.Rounds as published
 use Rattle.published.specs.Rounds.{isBench}
 use Rattle.tables.specs.Rows.{rows}
 use Rattle.tables.specs.Runs.{decisionOf}
-use Rattle.rounds.specs.declared.Decision.{Decision}
-use Rattle.rounds.specs.declared.Decision.the-variants.{None, Chosen}
-
-unfoldable pub decisionIs : Decision → published.Decision
-decisionIs None = published.none
-decisionIs (Chosen v) = published.chosen (v .0)
 
 unfoldable pub stateWord : List (List ℕ) → ℕ → ℕ
 stateWord t b = cond (isBench 16 b) (rows 16 t (b - 1) .state) 0

@@ -1,7 +1,8 @@
 // What a report says of a bench: its state, the last round that it sent, its decision. Nothing is changed.
 
 ghost use mathlib.Core.Path.{_≡_};
-ghost use Rattle.rounds.specs.Reads.{stateWord, sentWord, decisionAt, decisionIs};
+ghost use Rattle.rounds.specs.Decisions.{decisionIs};
+ghost use Rattle.rounds.specs.Reads.{stateWord, sentWord, decisionAt};
 use crate::Decision;
 use crate::rows::Benches;
 use crate::rows::load;

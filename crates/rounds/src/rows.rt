@@ -7,8 +7,9 @@ ghost use mathlib.Core.Bool.{true};
 ghost use Prim.Native.Nat.{_-_, _<_};
 ghost use lib.ListN.{length, getD, set};
 ghost use Rattle.published.specs.Rounds.{isBench};
-ghost use Rattle.bench.specs.Changes.{takeOf, noticeOf, inState};
-ghost use Rattle.tables.specs.Rows.{readRow, madeRow, rowOf, rows};
+ghost use Rattle.bench.specs.Changes.{takeOf, takenOf, outOf, noticeOf, inState, sentTo, sentOut};
+ghost use Rattle.tables.specs.Rows.{readRow, rowOf, rows};
+ghost use Rattle.rounds.specs.Sending.{Keeps, ownAt};
 use bench::Bench;
 use bench::only;
 use kinds::BenchNo;
@@ -28,20 +29,13 @@ pub(crate) fn place(bench: BenchNo) -> usize
     (bench.0 - 1) as usize
 }
 
-// ---- a whole row
+// ---- the whole row
 
 pub(crate) fn load(t: &Benches, k: usize) -> Bench
     requires { ⌜ k < 16 ⌝ }
     ensures { λ r. ⌜ r ≡ rows 16 (now (t .entry)) k ⌝ }
 {
     read_row(t[k])
-}
-
-pub(crate) fn store(t: &mut Benches, k: usize, b: Bench)
-    requires { ⌜ k < 16 ⌝ }
-    ensures { λ _. ⌜ now (t .exit) ≡ set (now (t .entry)) k (rowOf 16 b) ⌝ }
-{
-    t[k] = made_row(b);
 }
 
 fn read_row(row: [u32; 25]) -> Bench
@@ -76,39 +70,6 @@ fn read_row(row: [u32; 25]) -> Bench
             row[24],
         ],
     }
-}
-
-fn made_row(b: Bench) -> [u32; 25]
-    ensures { λ r. ⌜ r ≡ madeRow 16 b ⌝ }
-{
-    let t = b.taken;
-    [
-        b.state,
-        b.round.0,
-        b.value.0,
-        b.world,
-        b.outs,
-        b.noticed,
-        b.sent,
-        b.out,
-        b.chose,
-        t[0],
-        t[1],
-        t[2],
-        t[3],
-        t[4],
-        t[5],
-        t[6],
-        t[7],
-        t[8],
-        t[9],
-        t[10],
-        t[11],
-        t[12],
-        t[13],
-        t[14],
-        t[15],
-    ]
 }
 
 // ---- one word read
@@ -196,6 +157,42 @@ pub(crate) fn put_take(t: &mut Benches, k: usize, j: usize, m: Message)
             t[k][4] = t[k][4] | only(j);
         }
     }
+}
+
+// ---- a bench that sends: every word of the row that is not written stays, so it has to be the row's own bench
+
+// The bench at k, now b, has sent its message of round n, and has taken it.
+pub(crate) fn put_spoken(t: &mut Benches, k: usize, b: Bench, n: u32)
+    requires { ⌜ (k < 16) × Keeps b (rows 16 (now t) k) ⌝ }
+    ensures { λ _. ⌜ now (t .exit) ≡ set (now (t .entry)) k (rowOf 16 (sentTo n (takenOf b k n))) ⌝ }
+{
+    full(t[k]);
+    put_own(&mut *t, k, b);
+    t[k][6] = n;
+    t[k][9 + k] = n;
+}
+
+// The bench at k, now b, has sent OUT, and has taken it.
+pub(crate) fn put_parted(t: &mut Benches, k: usize, b: Bench)
+    requires { ⌜ (k < 16) × Keeps b (rows 16 (now t) k) ⌝ }
+    ensures { λ _. ⌜ now (t .exit) ≡ set (now (t .entry)) k (rowOf 16 (sentOut (outOf b k))) ⌝ }
+{
+    full(t[k]);
+    put_own(&mut *t, k, b);
+    t[k][4] = b.outs | only(k);
+    t[k][7] = 1;
+}
+
+// What a bench changes of itself.
+fn put_own(t: &mut Benches, k: usize, b: Bench)
+    requires { ⌜ k < 16 ⌝ }
+    ensures { λ _. ⌜ now (t .exit) ≡ ownAt (now (t .entry)) k b ⌝ }
+{
+    t[k][0] = b.state;
+    t[k][1] = b.round.0;
+    t[k][2] = b.value.0;
+    t[k][3] = b.world;
+    t[k][8] = b.chose;
 }
 
 // Nothing is done: of an array by value the checker knows the length, of one that is lent it does not.

@@ -5,13 +5,13 @@ ghost use Rattle.kinds.specs.declared.Message.the-variants.{Round, Out};
 ghost use Rattle.bench.specs.Changes.{inState, inRound};
 ghost use Rattle.tables.specs.Rows.{rows};
 ghost use Rattle.tables.specs.Steps.{Acts, acted, sentOf};
-ghost use Rattle.rounds.specs.Rooms.{HasRoom};
+ghost use Rattle.rounds.specs.Sending.{HasRoom, Keeps};
 use crate::rows::Benches;
 use crate::rows::Logs;
 use crate::rows::load;
-use crate::rows::store;
+use crate::rows::put_parted;
+use crate::rows::put_spoken;
 use bench::Bench;
-use kinds::BenchNo;
 use kinds::Message;
 use kinds::RoundMessage;
 use kinds::RoundNo;
@@ -19,22 +19,19 @@ use kinds::SlotNo;
 
 // The bench at k, now b, sends a message.
 pub(crate) fn send(benches: &mut Benches, logs: &mut Logs, k: usize, b: Bench, m: Message)
-    requires { ⌜ (k < 16) × HasRoom m ⌝ }
+    requires { ⌜ (k < 16) × HasRoom m × Keeps b (rows 16 (now benches) k) ⌝ }
     ensures { λ _. ⌜ Acts 0 (now (benches .exit)) (now (logs .exit)) (acted (sentOf 16 96 (now (benches .entry)) (now (logs .entry)) k b m)) ⌝ }
 {
-    let mut b = b.take(BenchNo(k as u32 + 1), m);
     match m {
         Message::Round(rm) => {
             let n = rm.round.0;
             let at = (n - 1) as usize;
             logs[k][at] = rm.value.0;
             logs[k][at + 96] = rm.world;
-            b.sent = n;
-            store(&mut *benches, k, b);
+            put_spoken(&mut *benches, k, b, n);
         }
         Message::Out => {
-            b.out = 1;
-            store(&mut *benches, k, b);
+            put_parted(&mut *benches, k, b);
         }
     }
 }

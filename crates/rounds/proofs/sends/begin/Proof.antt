@@ -1,4 +1,6 @@
 -- `begin`: by what `load` and `send` promise.
+use Rattle.rounds.proofs.Sending.{keeps-round}
+-- `begin`: by what `load` and `send` promise.
 use Rattle.bench.specs.Changes.{inRound}
 use borrow.Author.Needs.{needs}
 use Rattle.rounds.proofs.sends.begin.Statement.{statement}
@@ -8,7 +10,8 @@ load-requires : tie.Need-load-requires
 load-requires c κs = search needs
 
 send-requires : tie.Need-send-requires
-send-requires c κs = search needs
+unfolding inRound
+send-requires c κs = (search needs, (search needs, search needs), keeps-round _ _ (c .before .before .load .ensures) _ _ _)
 
 returns : tie.Need-returns
 unfolding inRound

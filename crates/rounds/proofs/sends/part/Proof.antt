@@ -1,4 +1,6 @@
 -- `part`: by what `load` and `send` promise.
+use Rattle.rounds.proofs.Sending.{keeps-state}
+-- `part`: by what `load` and `send` promise.
 use Rattle.bench.specs.Changes.{inState}
 use borrow.Author.Needs.{needs}
 use Rattle.rounds.proofs.sends.part.Statement.{statement}
@@ -8,7 +10,8 @@ load-requires : tie.Need-load-requires
 load-requires c κs = search needs
 
 send-requires : tie.Need-send-requires
-send-requires c κs = search needs
+unfolding inState
+send-requires c κs = (search needs, tt, keeps-state _ _ (c .before .before .load .ensures) _)
 
 returns : tie.Need-returns
 unfolding inState

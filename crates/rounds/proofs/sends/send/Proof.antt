@@ -1,18 +1,8 @@
 -- `send`: the message has room, and a law for each kind of message.
-use Rattle.bench.specs.Changes.{sentTo, sentOut}
 use Rattle.rounds.proofs.Sending.{room-first, room-value, room-world, sends-round, sends-out}
 use borrow.Author.Needs.{needs}
 use Rattle.rounds.proofs.sends.send.Statement.{statement}
 use Rattle.rounds.proofs.sends.send.Tie as tie
-
-cast-t10 : tie.Need-cast-t10
-cast-t10 c = search needs
-
-add-t11 : tie.Need-add-t11
-add-t11 c = search needs
-
-take-requires : tie.Need-take-requires
-take-requires c κs = search needs
 
 enum-known-m : tie.Need-enum-known-m
 enum-known-m c = search needs
@@ -50,30 +40,25 @@ index-1-logs-2 c = search needs
 index-2-logs-2 : tie.Need-index-2-logs-2
 index-2-logs-2 c = search room-world
 
-store-requires : tie.Need-store-requires
-store-requires c κs = search needs
+put-spoken-requires : tie.Need-put-spoken-requires
+put-spoken-requires c κs = search needs
 
 enum-told : tie.Need-enum-told
 enum-told c = search needs
 
-store-requires-2 : tie.Need-store-requires-2
-store-requires-2 c κs = search needs
+put-parted-requires : tie.Need-put-parted-requires
+put-parted-requires c κs = search needs
 
 returns : tie.Need-returns
-unfolding sentTo
 returns c = search sends-round
 
 returns-2 : tie.Need-returns-2
-unfolding sentOut
 returns-2 c = search sends-out
 
 pub send-spec : {M : Type 1} → statement M
 send-spec =
     tie.close
     (tie.spec
-    cast-t10
-    add-t11
-    take-requires
     enum-known-m
     sub-at
     cast-at
@@ -86,8 +71,8 @@ send-spec =
     mul-logs-4
     index-1-logs-2
     index-2-logs-2
-    store-requires
+    put-spoken-requires
     enum-told
-    store-requires-2
+    put-parted-requires
     returns
     returns-2)

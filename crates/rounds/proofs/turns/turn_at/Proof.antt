@@ -1,5 +1,5 @@
 -- `turn_at`: what a turn sends has room, and a law for each answer.
-use Rattle.rounds.proofs.Turning.{room-decided, room-went, turn-decided, turn-went, turn-refused}
+use Rattle.rounds.proofs.Turning.{room-decided, room-went, turn-keeps, turn-decided, turn-went, turn-refused}
 use borrow.Author.Needs.{needs}
 use Rattle.rounds.proofs.turns.turn_at.Statement.{statement}
 use Rattle.rounds.proofs.turns.turn_at.Tie as tie
@@ -17,13 +17,15 @@ enum-known-answer : tie.Need-enum-known-answer
 enum-known-answer c = search needs
 
 send-requires : tie.Need-send-requires
-send-requires c κs = (search needs, room-decided _ _ _ (c .before .before .before .before .before .before .turn .ensures) _ _ (c .before .before .before .answer .given .1))
+send-requires c κs =
+    (search needs, room-decided _ _ _ (c .before .before .before .before .before .before .turn .ensures) _ _ (c .before .before .before .answer .given .1), turn-keeps _ _ _ (c .before .before .before .before .before .before .turn .ensures) _ (c .before .before .before .before .before .before .before .before .before .before .load .ensures))
 
 enum-known-answer-2 : tie.Need-enum-known-answer-2
 enum-known-answer-2 c = search needs
 
 send-requires-2 : tie.Need-send-requires-2
-send-requires-2 c κs = (search needs, room-went _ _ _ (c .before .before .before .before .before .before .turn .ensures) _ (c .before .before .before .answer2 .given .1))
+send-requires-2 c κs =
+    (search needs, room-went _ _ _ (c .before .before .before .before .before .before .turn .ensures) _ (c .before .before .before .answer2 .given .1), turn-keeps _ _ _ (c .before .before .before .before .before .before .turn .ensures) _ (c .before .before .before .before .before .before .before .before .before .before .load .ensures))
 
 enum-known-answer-3 : tie.Need-enum-known-answer-3
 enum-known-answer-3 c = search needs

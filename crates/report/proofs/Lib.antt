@@ -1,0 +1,11 @@
+pub mod Storing
+pub mod AnswerLines
+pub mod BenchLines
+pub mod TotalsLine
+pub mod Played
+pub mod Reports
+pub mod Lengths
+pub mod Settled
+pub mod Decided
+pub mod WholeCase
+pub mod Theorems
