@@ -17,6 +17,7 @@ import programs
 
 WHOLE_CASE = programs.TOP / "crates" / "run"  # its stdin and stdout are document 01's whole case
 LIMIT = 65536
+NATIVE = platform.machine() == "x86_64"  # elsewhere programs are static, since the emulator finds no x86-64 libraries
 
 
 def texts():
@@ -36,23 +37,23 @@ def texts():
 
 def compiled(folder, name, source, archive):
     """Compiles a C program for x86-64 against the archive."""
-    compiler, package = ("gcc", "gcc") if platform.machine() == "x86_64" else ("x86_64-linux-gnu-gcc", "gcc-x86-64-linux-gnu")
+    compiler, package, static = ("gcc", "gcc", []) if NATIVE else ("x86_64-linux-gnu-gcc", "gcc-x86-64-linux-gnu", ["-static"])
     programs.install(compiler, package)
     program = pathlib.Path(folder) / name
-    subprocess.run([compiler, "-std=c11", "-O2", "-g", "-Wall", "-Wextra", "-Werror", "-static", f"-I{programs.TOP / 'include'}",
+    subprocess.run([compiler, "-std=c11", "-O2", "-g", "-Wall", "-Wextra", "-Werror", *static, f"-I{programs.TOP / 'include'}",
                     "-o", program, programs.TOP / source, archive], check=True)
     return program
 
 
 def started(program):
-    """The words that start a static x86-64 program here."""
-    emulator = programs.kit_tools() / "bin" / "qemu-x86_64"
-    return [str(emulator), str(program)] if emulator.exists() else [str(program)]
+    """The words that start a compiled x86-64 program here."""
+    return [str(program)] if NATIVE else [str(programs.kit_tools() / "bin" / "qemu-x86_64"), str(program)]
 
 
 def main():
     archive = programs.TOP / "target" / "staticlib" / "libreport.a"
-    subprocess.run(["rt", "staticlib", "report"], cwd=programs.TOP, check=True, stdin=subprocess.DEVNULL, stdout=subprocess.DEVNULL)
+    subprocess.run(["rt", "staticlib", "report"], cwd=programs.TOP, check=True, stdin=subprocess.DEVNULL,
+                   stdout=subprocess.DEVNULL, stderr=subprocess.DEVNULL)
     with tempfile.TemporaryDirectory() as folder:
         second = programs.second(folder)
         files = []
@@ -64,7 +65,7 @@ def main():
             files.append(str(file))
         program = compiled(folder, "c_entry", "tests/c_entry.c", archive)
         subprocess.run([*started(program), *files], check=True)
-        if platform.machine() == "x86_64" and shutil.which("valgrind"):
+        if NATIVE and shutil.which("valgrind"):
             subprocess.run(["valgrind", "-q", "--error-exitcode=1", str(program), *files[:5], files[7]], check=True, stdout=subprocess.DEVNULL)
             print("c_entry: valgrind has nothing to say")
         play = compiled(folder, "play", "examples/c/play.c", archive)
