@@ -1,17 +1,16 @@
 -- No sweep is lost and none comes twice: whatever is tallied, what was held and what came in is what went out, what was dropped and what
 -- is still held. By induction over the steps, each by its rule. Assumes nothing.
 use mathlib.Core.Path.{_≡_, refl, ap, sym, _∙_}
-use Prim.Native.Nat.{ℕ, zero, suc, _+_, _≤_, _<_}
+use Prim.Native.Nat.{ℕ, zero, suc, _+_}
 use mathlib.Core.Bool.{Bool, true, false, cond, not, _&&_, _||_}
 use mathlib.Core.List.{List, [], _∷_, _++_}
 use native.Mathlib.Omega.{arith}
 use lib.ListN.{length, length-append}
 use lib.Dec.{eqb, leb}
-use borrow.Author.Tests.{eqb-true, eqb-false, eq-eqb, ne-eqb, le-leb, lt-leb, leb-true, leb-false}
-use Rattle.published.specs.Rounds.{isBench, needs}
-use Rattle.published.proofs.Tests.{both, clash, split}
-use Rattle.published.proofs.Checks.{Fails, here, later}
-use Rattle.published.proofs.Worlds.{In}
+use borrow.Author.Tests.{eqb-true, eqb-false, ne-eqb, le-leb, lt-leb, leb-true, leb-false}
+use Rattle.published.specs.Rounds.{isBench}
+use Rattle.published.proofs.Tests.{both, split}
+use Rattle.published.proofs.Checks.{Fails}
 use Rattle.ledger.specs.Book.{Sweep, only, openSlot, joined, Book, newBook, withRow, swept, cut, advanced, Step, join, sweep, close, end, handOut, Answer, answer, checks, step}
 use Rattle.ledger.specs.Traffic.{bookFrom, accepted, dropped, handedOut, inOrder, along, tally}
 use Rattle.ledger.proofs.Only.{only-append, only-none, only-same, all-any}

@@ -1,14 +1,14 @@
 -- Each way through a step of the code keeps the step's promise: one lemma for each answer, its premises as the code's tests leave them.
 -- Assumes nothing.
 use mathlib.Core.Path.{_≡_, refl, ap, sym, _∙_}
-use Prim.Native.Nat.{ℕ, zero, suc, _+_, _≤_, _<_, min}
+use Prim.Native.Nat.{ℕ, _+_, _≤_, _<_, min}
 use mathlib.Core.Bool.{Bool, true, false, cond, not, _&&_}
 use mathlib.Core.List.{List, [], _∷_, _++_, map, map-append}
 use native.Mathlib.Numerals.{add-one}
 use native.Mathlib.Omega.{arith}
-use lib.ListN.{length, take, drop, set, length-append, length-map, length-take, length-set}
+use lib.ListN.{length, take, drop, set, length-map, length-take, length-set}
 use lib.Seq.{take-suc-set, drop-set-lt, length-take-le, take-all}
-use lib.Dec.{eqb, leb, ltb}
+use lib.Dec.{eqb, leb}
 use borrow.Author.Tests.{not-true, not-false, le-leb, lt-leb, lt-ltb, le-ltb, leb-true, leb-false}
 use Rattle.published.specs.Rounds.{needs, isBench, put}
 use Rattle.published.proofs.Tests.{split}
@@ -19,8 +19,8 @@ use Rattle.ledger.specs.declared.Row.{Row}
 use Rattle.ledger.specs.declared.Ledger.{Ledger}
 use Rattle.ledger.specs.declared.Told.{Told}
 use Rattle.ledger.specs.Book as book
-use Rattle.ledger.specs.Book.{Sweep, Step, join, sweep, close, end, handOut, Answer, answer, checks, after, step, hasJoined, isOpen, firstSlot, openSlot, withRow, swept, cut, only}
-use Rattle.ledger.specs.Seen.{rowIs, rowsOf, sweepOf, heldIn, bookOf}
+use Rattle.ledger.specs.Book.{Sweep, Step, join, sweep, close, end, answer, checks, after, hasJoined, isOpen, firstSlot, openSlot, withRow, swept, cut}
+use Rattle.ledger.specs.Seen.{rowIs, rowsOf, sweepIs, heldIn, bookOf}
 use Rattle.ledger.specs.Words.{TakesOut, Becomes, endedOf}
 use Rattle.ledger.specs.Promises.{Tells, movesHeld}
 use Rattle.ledger.proofs.Seating.{bench-range}
@@ -132,25 +132,25 @@ unfolding heldIn
 held-min words k h = split (leb k 1024)
     (λ q. let e : min k 1024 ≡ k = omega (arith, leb-true k 1024 q) in rw e)
     (λ q. let g = leb-false k 1024 q in let e : min k 1024 ≡ 1024 = omega arith in
-    rw e (ap (map sweepOf) (take-all 1024 words (omega arith) ∙ sym (take-all k words (omega arith)))))
+    rw e (ap (map sweepIs) (take-all 1024 words (omega arith) ∙ sym (take-all k words (omega arith)))))
 
 -- fewer than 1,024 are held exactly where the count is below 1,024
 held-fewer : (words : List ℕ) (k : ℕ) → length words ≡ 1024 → k < 1024 → length (heldIn k words) < 1024
 unfolding heldIn
-held-fewer words k h g = omega (arith, length-map (take k words) sweepOf, length-take k words)
+held-fewer words k h g = omega (arith, length-map (take k words) sweepIs, length-take k words)
 
 held-full : (words : List ℕ) (k : ℕ) → length words ≡ 1024 → 1024 ≤ k → 1024 ≤ length (heldIn k words)
 unfolding heldIn
-held-full words k h g = omega (arith, length-map (take k words) sweepOf, length-take k words)
+held-full words k h g = omega (arith, length-map (take k words) sweepIs, length-take k words)
 
 -- one sweep more
-held-swept : (words : List ℕ) (k x : ℕ) (w : Sweep) → k < length words → sweepOf x ≡ w → heldIn (k + 1) (set words k x) ≡ heldIn k words ++ w ∷ []
+held-swept : (words : List ℕ) (k x : ℕ) (w : Sweep) → k < length words → sweepIs x ≡ w → heldIn (k + 1) (set words k x) ≡ heldIn k words ++ w ∷ []
 unfolding heldIn
 held-swept words k x w h e = rw (add-one, take-suc-set words k x h, map-append, e)
 
 held-count : (words : List ℕ) (k x : ℕ) → k < length words → k + 1 ≡ length (heldIn (k + 1) (set words k x))
 unfolding heldIn
-held-count words k x h = sym (length-map (take (k + 1) (set words k x)) sweepOf ∙ length-take-le (k + 1) (set words k x) (omega (arith, length-set words k x)))
+held-count words k x h = sym (length-map (take (k + 1) (set words k x)) sweepIs ∙ length-take-le (k + 1) (set words k x) (omega (arith, length-set words k x)))
 
 -- ---- sweep: 1, 15, 17, 25
 
@@ -182,7 +182,7 @@ module _ (l : Ledger) (words : List ℕ) (sender : BenchNo) (tag : ℕ) (r : Tol
             (later 1 (isBench 16 s) _ 25 (is-sender s t known q) (later 15 _ _ 25 (row-test isOpen l s row is u true opened (not-false u v))
             (later 17 _ _ 25 (rw (row-slot openSlot l s row is o at) (le-leb (o .0) 65534 h)) (here 25 _ _ (le-ltb (length (heldIn (l .cursor .held) words)) 1024 (held-full words (l .cursor .held) room g))))))
 
-        pub sweep-done : l .cursor .held < 1024 → (x : ℕ) → sweepOf x ≡ record { sender = s; slot = o .0; tag = tag } → (l′ : Ledger)
+        pub sweep-done : l .cursor .held < 1024 → (x : ℕ) → sweepIs x ≡ record { sender = s; slot = o .0; tag = tag } → (l′ : Ledger)
             → l′ ≡ record { cursor = record { next = l .cursor .next; held = l .cursor .held + 1 }; seats = l .seats } → r ≡ told 0 l′
             → Tells l words (sweep s tag) r (set words (l .cursor .held) x)
         unfolding checks bookOf after answer swept movesHeld

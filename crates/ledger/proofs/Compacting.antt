@@ -1,8 +1,8 @@
 -- The pass that takes sweeps out of the room: its invariant over the words passed, a turn of it, and what it leaves. Assumes nothing.
 use mathlib.Core.Path.{_≡_, refl, ap, sym, _∙_}
-use Prim.Native.Nat.{ℕ, suc, _+_, _≤_, _<_}
+use Prim.Native.Nat.{ℕ, _+_, _≤_, _<_}
 use mathlib.Core.Bool.{Bool, true, false, not}
-use mathlib.Core.List.{List, [], _∷_, _++_, map, append-nil}
+use mathlib.Core.List.{List, [], _∷_, _++_, map}
 use native.Mathlib.Numerals.{add-one}
 use native.Mathlib.Omega.{arith}
 use lib.ListN.{length, take, drop, getD, set, length-append, length-map, length-set}
@@ -10,7 +10,7 @@ use lib.Seq.{take-suc}
 use lib.Dec.{eqb, leb}
 use borrow.Author.Tests.{eq-eqb, ne-eqb}
 use Rattle.ledger.specs.Book.{Sweep, only}
-use Rattle.ledger.specs.Seen.{sweepOf, heldIn}
+use Rattle.ledger.specs.Seen.{sweepIs, heldIn}
 use Rattle.ledger.specs.Promises.{laid}
 use Rattle.ledger.specs.declared.words.Part.{Part}
 use Rattle.ledger.specs.declared.words.Part.the-variants.{Of, From}
@@ -23,20 +23,20 @@ use Rattle.ledger.proofs.Laid.{laid-more, laid-past, laid-front, laid-r
 -- ---- whether a word is in a part
 
 module _ (w : ℕ) (p : Part) where
-  pub in-slot : (k : SlotNo) (x : ℕ) → p ≡ Of k → x ≡ sweepOf w .slot → eqb x (k .0) ≡ within p (sweepOf w)
+  pub in-slot : (k : SlotNo) (x : ℕ) → p ≡ Of k → x ≡ sweepIs w .slot → eqb x (k .0) ≡ within p (sweepIs w)
   in-slot k x is e = rw (is, e)
 
-  pub in-other : (s : BenchNo) (e : SlotNo) (x : ℕ) → p ≡ From s e → x ≡ sweepOf w .sender → (x ≡ s .0 → ⊥) → false ≡ within p (sweepOf w)
+  pub in-other : (s : BenchNo) (e : SlotNo) (x : ℕ) → p ≡ From s e → x ≡ sweepIs w .sender → (x ≡ s .0 → ⊥) → false ≡ within p (sweepIs w)
   in-other s e x is q ne = rw (is, ← q, ne-eqb x (s .0) ne)
 
-  pub in-from : (s : BenchNo) (e : SlotNo) (x y : ℕ) → p ≡ From s e → x ≡ sweepOf w .sender → x ≡ s .0 → y ≡ sweepOf w .slot → leb (e .0) y ≡ within p (sweepOf w)
+  pub in-from : (s : BenchNo) (e : SlotNo) (x y : ℕ) → p ≡ From s e → x ≡ sweepIs w .sender → x ≡ s .0 → y ≡ sweepIs w .slot → leb (e .0) y ≡ within p (sweepIs w)
   in-from s e x y is q same r = rw (is, ← q, ← r, eq-eqb x (s .0) same)
 
 -- ---- the pass
 
 -- the words among the first i whose sweep stays
 abbrev pub staying : (Sweep → Bool) → List ℕ → ℕ → List ℕ
-staying p old i = only (λ w. not (p (sweepOf w))) (take i old)
+staying p old i = only (λ w. not (p (sweepIs w))) (take i old)
 
 -- of the first i words those that stay are at the front, k of them
 pub record Compacting (p : Sweep → Bool) (old : List ℕ) (i : ℕ) (words : List ℕ) (k : ℕ) : Type 0 where
@@ -58,10 +58,10 @@ module _ (p : Sweep → Bool) (old : List ℕ) (i : ℕ) (words : List ℕ) (k :
   one-more : i < length old → take (i + 1) old ≡ take i old ++ getD words i 0 ∷ []
   one-more h = rw (add-one, take-suc old i 0, same)
 
-  pub compacting-stays : i < length old → p (sweepOf (getD words i 0)) ≡ false → Compacting p old (i + 1) (set words k (getD words i 0)) (k + 1)
+  pub compacting-stays : i < length old → p (sweepIs (getD words i 0)) ≡ false → Compacting p old (i + 1) (set words k (getD words i 0)) (k + 1)
   compacting-stays h e =
-      let t : not (p (sweepOf (getD words i 0))) ≡ true = rw e in
-      let m : staying p old (i + 1) ≡ staying p old i ++ getD words i 0 ∷ [] = ap (only (λ w. not (p (sweepOf w)))) (one-more h) ∙ snoc-yes (λ w. not (p (sweepOf w))) (take i old) (getD words i 0) t in
+      let t : not (p (sweepIs (getD words i 0))) ≡ true = rw e in
+      let m : staying p old (i + 1) ≡ staying p old i ++ getD words i 0 ∷ [] = ap (only (λ w. not (p (sweepIs w)))) (one-more h) ∙ snoc-yes (λ w. not (p (sweepIs w))) (take i old) (getD words i 0) t in
       record {
         passed = omega arith;
         below = omega arith;
@@ -74,10 +74,10 @@ module _ (p : Sweep → Bool) (old : List ℕ) (i : ℕ) (words : List ℕ) (k :
             ∙ ap (λ (l : List ℕ). laid l old) (sym m);
       }
 
-  pub compacting-goes : i < length old → p (sweepOf (getD words i 0)) ≡ true → Compacting p old (i + 1) words k
+  pub compacting-goes : i < length old → p (sweepIs (getD words i 0)) ≡ true → Compacting p old (i + 1) words k
   compacting-goes h e =
-      let t : not (p (sweepOf (getD words i 0))) ≡ false = rw e in
-      let m : staying p old (i + 1) ≡ staying p old i = ap (only (λ w. not (p (sweepOf w)))) (one-more h) ∙ snoc-no (λ w. not (p (sweepOf w))) (take i old) (getD words i 0) t in
+      let t : not (p (sweepIs (getD words i 0))) ≡ false = rw e in
+      let m : staying p old (i + 1) ≡ staying p old i = ap (only (λ w. not (p (sweepIs w)))) (one-more h) ∙ snoc-no (λ w. not (p (sweepIs w))) (take i old) (getD words i 0) t in
       record {
         passed = omega arith;
         below = omega arith;
@@ -89,9 +89,9 @@ module _ (p : Sweep → Bool) (old : List ℕ) (i : ℕ) (words : List ℕ) (k :
   pub compacting-out : TakesOut p i old k words
   unfolding heldIn
   compacting-out =
-      let m : only (λ w. not (p w)) (heldIn i old) ≡ map sweepOf (staying p old i) = only-map sweepOf (λ w. not (p w)) (take i old) in
+      let m : only (λ w. not (p w)) (heldIn i old) ≡ map sweepIs (staying p old i) = only-map sweepIs (λ w. not (p w)) (take i old) in
       record {
-        count-is = inv .count-is ∙ sym (length-map (staying p old i) sweepOf) ∙ ap length (sym m);
-        held-is = ap (λ (l : List ℕ). map sweepOf (take k l)) (inv .words-are) ∙ ap (map sweepOf) (laid-front (staying p old i) old k (sym (inv .count-is))) ∙ sym m;
+        count-is = inv .count-is ∙ sym (length-map (staying p old i) sweepIs) ∙ ap length (sym m);
+        held-is = ap (λ (l : List ℕ). map sweepIs (take k l)) (inv .words-are) ∙ ap (map sweepIs) (laid-front (staying p old i) old k (sym (inv .count-is))) ∙ sym m;
         past-is = ap (drop k) (inv .words-are) ∙ laid-rest (staying p old i) old k (sym (inv .count-is));
       }

@@ -1,21 +1,20 @@
 -- A sender that has joined stays known, and its open slot never falls; a sender that has ended has no sweep left from its end on, and
 -- none of them is ever handed out. Assumes nothing.
-use mathlib.Core.Path.{_≡_, refl, ap, sym, _∙_}
-use Prim.Native.Nat.{ℕ, zero, suc, _+_, _≤_, _<_}
-use mathlib.Core.Bool.{Bool, true, false, cond, not, _&&_}
-use mathlib.Core.List.{List, [], _∷_, _++_}
+use mathlib.Core.Path.{_≡_, refl, sym}
+use Prim.Native.Nat.{ℕ, zero, suc, _≤_}
+use mathlib.Core.Bool.{true, false, cond, not}
+use mathlib.Core.List.{List, [], _∷_}
 use native.Mathlib.Omega.{arith}
 use lib.Dec.{eqb, leb}
 use borrow.Author.Tests.{eq-eqb, ne-eqb, le-leb, not-true}
-use Rattle.published.specs.Rounds.{put, needs, isBench}
-use Rattle.published.proofs.Tests.{clash, split, cond-ind}
+use Rattle.published.specs.Rounds.{put}
+use Rattle.published.proofs.Tests.{clash, cond-ind}
 use Rattle.published.proofs.Updates.{put-ind, put-same}
 use Rattle.published.proofs.Checks.{Fails, here, later}
-use Rattle.ledger.specs.Book.{Sweep, only, Row, unknown, joined, ended, hasJoined, isOpen, openSlot, Book, withRow, swept, cut, advanced, Step, join, sweep, close, end, handOut, Answer, answer, checks, step}
+use Rattle.ledger.specs.Book.{Sweep, only, Row, unknown, joined, ended, isOpen, openSlot, Book, withRow, swept, cut, advanced, Step, join, sweep, close, end, handOut, Answer, answer, checks, step}
 use Rattle.ledger.specs.Traffic.{bookFrom, handedOut, inOrder, along}
-use Rattle.ledger.proofs.Only.{All, none, more, all-append, all-map, all-only, all-any}
+use Rattle.ledger.proofs.Only.{All, none, more, all-append, all-only, all-any}
 use Rattle.ledger.proofs.Tags.{sentIn, sentFrom}
-use Rattle.ledger.proofs.Judging.{verdict, Verdict, against, for}
 use Rattle.ledger.proofs.Outcomes.{join-ind, sweep-ind, close-ind, end-ind, handOut-ind, positive}
 
 -- ---- an open slot never falls

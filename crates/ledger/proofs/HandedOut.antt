@@ -1,28 +1,25 @@
 -- Each way through a hand-out of the code keeps its promise: one lemma for each answer, its premises as the code's tests leave them.
 -- Assumes nothing.
 use mathlib.Core.Path.{_≡_, refl, ap, sym, _∙_}
-use Prim.Native.Nat.{ℕ, zero, suc, _+_, _≤_, _<_, min}
+use Prim.Native.Nat.{ℕ, suc, _≤_, _<_, min}
 use mathlib.Core.Bool.{Bool, true, false, not}
-use mathlib.Core.List.{List, [], _∷_, _++_}
+use mathlib.Core.List.{List}
 use native.Mathlib.Numerals.{add-one}
 use native.Mathlib.Omega.{arith}
-use lib.ListN.{length, drop}
-use lib.Dec.{eqb, leb, eqb·suc-zero}
+use lib.ListN.{length}
+use lib.Dec.{eqb, eqb·suc-zero}
 use borrow.Author.Tests.{not-true, not-false, le-leb, lt-leb}
 use Rattle.published.proofs.Checks.{Holds, nothing, also, Fails, here, later}
-use Rattle.kinds.specs.declared.SlotNo.{SlotNo}
 use Rattle.ledger.specs.declared.Cursor.{Cursor}
 use Rattle.ledger.specs.declared.Ledger.{Ledger}
-use Rattle.ledger.specs.declared.HandOut.{HandOut}
 use Rattle.ledger.specs.declared.HandOut.the-variants.{Written, Refused}
-use Rattle.ledger.specs.declared.Handed.{Handed}
 use Rattle.ledger.specs.declared.order.Starts.{Starts}
-use Rattle.ledger.specs.Book.{Step, handOut, Answer, answer, checks, after, step, advanced, mayGo, tagsOf}
+use Rattle.ledger.specs.Book.{handOut, answer, checks, after, advanced, mayGo, tagsOf}
 use Rattle.ledger.specs.Seen.{rowsOf, heldIn, bookOf}
 use Rattle.ledger.specs.Advancing.{advancedOf}
 use Rattle.ledger.specs.Words.{TakesOut}
 use Rattle.ledger.specs.Order.{Starting}
-use Rattle.ledger.specs.Promises.{Tells, Hands, movesHeld, numberOf, handOutOf, laid}
+use Rattle.ledger.specs.Promises.{Hands, movesHeld, numberOf, handOutOf, laid}
 use Rattle.ledger.proofs.Judging.{step-fails, step-holds}
 use Rattle.ledger.proofs.Answered.{told, refused, done, held-min}
 

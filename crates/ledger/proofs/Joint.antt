@@ -1,5 +1,5 @@
 -- The joint of rounds and ledger, by what the rounds promise and nothing else: no bench decides above its own proposal. Assumes nothing.
-use mathlib.Core.Path.{_≡_, sym, _∙_}
+use mathlib.Core.Path.{_≡_}
 use Prim.Native.Nat.{ℕ, _≤_}
 use mathlib.Core.Bool.{false}
 use mathlib.Core.List.{List}
@@ -7,7 +7,7 @@ use native.Mathlib.Omega.{arith}
 use Rattle.published.specs.Rounds as rounds
 use Rattle.published.specs.Rounds.{find, found, chosen, runFrom, newRun}
 use Rattle.published.proofs.Theorems.{not-above-own}
-use Rattle.ledger.specs.Book.{Row, joined, Book, Step, end, step}
+use Rattle.ledger.specs.Book.{joined, Book, Step, end, step}
 use Rattle.ledger.specs.Traffic.{bookFrom, handedOut, along}
 use Rattle.ledger.proofs.Only.{All}
 use Rattle.ledger.proofs.Tags.{sentFrom}

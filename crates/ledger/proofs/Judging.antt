@@ -1,7 +1,7 @@
 -- Why a step of a book is refused or done: the first check that fails gives the number; where all hold the step is done. Assumes nothing.
 use mathlib.Core.Path.{_≡_, refl}
 use Prim.Native.Nat.{ℕ}
-use mathlib.Core.Bool.{Bool, true, false}
+use mathlib.Core.Bool.{true, false}
 use mathlib.Core.List.{List, [], _∷_}
 use Rattle.published.specs.Rounds.{Check, needs}
 use Rattle.published.proofs.Checks.{Holds, nothing, also, Fails, here, later}

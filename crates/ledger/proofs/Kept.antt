@@ -1,18 +1,18 @@
 -- The invariant of every book that is made from a new one: `Kept`. New books have it, every step keeps it, and from it follow the facts
 -- that document 01's numbers rest on. What it consists of is nobody else's matter. Assumes nothing.
-use mathlib.Core.Path.{_≡_, refl, ap, sym, _∙_}
-use Prim.Native.Nat.{ℕ, zero, suc, _+_, _≤_, _<_}
-use mathlib.Core.Bool.{Bool, true, false, not, _&&_, _||_}
-use mathlib.Core.List.{List, [], _∷_, _++_}
+use mathlib.Core.Path.{_≡_, refl}
+use Prim.Native.Nat.{ℕ, suc, _≤_, _<_}
+use mathlib.Core.Bool.{true, not, _&&_, _||_}
+use mathlib.Core.List.{List, [], _∷_}
 use native.Mathlib.Omega.{arith}
 use lib.ListN.{length, length-append}
 use lib.Dec.{eqb, leb, ltb}
-use borrow.Author.Tests.{eqb-true, eqb-false, eq-eqb, leb-true, leb-false, le-leb, ltb-true, not-true}
+use borrow.Author.Tests.{eqb-false, eq-eqb, leb-true, leb-false, le-leb, ltb-true, not-true}
 use Rattle.published.specs.Rounds.{put}
 use Rattle.published.proofs.Tests.{both, implies, clash, split}
-use Rattle.published.proofs.Updates.{put-ind, put-same}
+use Rattle.published.proofs.Updates.{put-ind}
 use Rattle.published.proofs.Worlds.{In, every-get}
-use Rattle.ledger.specs.Book.{Sweep, only, Row, unknown, joined, ended, isMember, openSlot, mayGo, Book, newBook, withRow, swept, cut, advanced, Step, join, sweep, close, end, handOut, Answer, answer, step}
+use Rattle.ledger.specs.Book.{Sweep, only, Row, unknown, joined, ended, isMember, openSlot, mayGo, Book, newBook, withRow, swept, cut, advanced, Step, join, sweep, close, end, handOut, answer, step}
 use Rattle.ledger.specs.Traffic.{bookFrom}
 use Rattle.ledger.proofs.Only.{All, none, more, all-append, all-map, all-only, only-length}
 use Rattle.ledger.proofs.Outcomes.{join-ind, sweep-ind, close-ind, end-ind, handOut-ind}

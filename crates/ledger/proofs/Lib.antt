@@ -1,5 +1,6 @@
 pub mod Judging
 pub mod Outcomes
+pub mod Numbers
 pub mod Kept
 pub mod Tags
 pub mod Accounts

@@ -1,15 +1,15 @@
 -- Ledgers made from a new one by the code's steps: their book is kept, and their count is the number of sweeps held. Assumes nothing.
 use mathlib.Core.Path.{_≡_, refl, ap, sym, _∙_}
 use Prim.Native.Nat.{ℕ, _≤_}
-use mathlib.Core.Bool.{Bool, true, false, cond, _&&_}
-use mathlib.Core.List.{List, []}
+use mathlib.Core.Bool.{true, false, cond, _&&_}
+use mathlib.Core.List.{List}
 use native.Mathlib.Omega.{arith}
 use lib.ListN.{length}
 use lib.Dec.{eqb}
 use Rattle.published.proofs.Tests.{clash, split}
 use Rattle.ledger.specs.declared.Ledger.{Ledger}
 use Rattle.ledger.specs.declared.Told.{Told}
-use Rattle.ledger.specs.Book.{Book, newBook, withRow, swept, cut, advanced, Step, join, sweep, close, end, handOut, Answer, answer, step}
+use Rattle.ledger.specs.Book.{Book, newBook, withRow, Step, join, sweep, close, end, handOut, answer, step}
 use Rattle.ledger.specs.Seen.{bookOf}
 use Rattle.ledger.specs.Promises.{movesHeld, Tells, Begins}
 use Rattle.ledger.proofs.Outcomes.{join-ind, sweep-ind, close-ind, end-ind, handOut-ind}

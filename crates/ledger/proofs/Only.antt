@@ -1,10 +1,10 @@
 -- Laws of `only`, what a test leaves of a list. Assumes nothing.
-use mathlib.Core.Path.{_≡_, refl, ap, sym, _∙_, fun-ext}
-use Prim.Native.Nat.{ℕ, zero, suc, _+_, _≤_}
-use mathlib.Core.Bool.{Bool, true, false, cond, not, _&&_}
+use mathlib.Core.Path.{_≡_, refl, ap, _∙_}
+use Prim.Native.Nat.{_+_, _≤_}
+use mathlib.Core.Bool.{Bool, true, false, _&&_}
 use mathlib.Core.List.{List, [], _∷_, _++_, map, append-nil}
 use native.Mathlib.Omega.{arith}
-use lib.ListN.{length, length-append}
+use lib.ListN.{length}
 use Rattle.published.proofs.Tests.{split}
 use Rattle.ledger.specs.Book.{only}
 

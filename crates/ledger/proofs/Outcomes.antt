@@ -1,18 +1,17 @@
 -- One induction rule for each step: it is refused and the book stays, or it is done, and is exactly this change under these facts.
 -- Assumes nothing.
-use mathlib.Core.Path.{_≡_, refl, ap, sym, _∙_}
-use Prim.Native.Nat.{ℕ, zero, suc, _≤_, _<_}
+use mathlib.Core.Path.{_≡_, refl}
+use Prim.Native.Nat.{ℕ, suc, _≤_, _<_}
 use mathlib.Core.Bool.{Bool, true, false, not, _&&_}
 use mathlib.Core.List.{List, [], _∷_}
 use lib.ListN.{length}
-use lib.Dec.{leb, ltb, eqb}
+use lib.Dec.{leb, eqb}
 use borrow.Author.Tests.{leb-true, ltb-true, not-true}
-use native.Mathlib.Omega.{arith}
 use Rattle.published.specs.Rounds.{Check, needs, isBench}
 use Rattle.published.proofs.Tests.{both, clash}
-use Rattle.published.proofs.Checks.{Holds, nothing, also, Fails, here, later}
+use Rattle.published.proofs.Checks.{Holds, also, Fails, here, later}
 use Rattle.published.proofs.Worlds.{In}
-use Rattle.ledger.specs.Book.{Sweep, Row, unknown, joined, ended, hasJoined, isOpen, firstSlot, openSlot, mayGo, tagsOf, Book, withRow, swept, cut, advanced, Step, join, sweep, close, end, handOut, Answer, answer, checks, after, step}
+use Rattle.ledger.specs.Book.{Row, unknown, joined, ended, hasJoined, isOpen, firstSlot, openSlot, mayGo, tagsOf, Book, withRow, swept, cut, advanced, Step, join, sweep, close, end, handOut, Answer, answer, checks, after, step}
 use Rattle.ledger.proofs.Judging.{Verdict, against, for, verdict}
 
 -- ---- what the checks say

@@ -1,15 +1,15 @@
 -- A sweep is one word, and the word is the sweep: what is packed comes back, and equal sweeps are equal words. Assumes nothing.
 use mathlib.Core.Path.{_≡_, refl, ap, sym, _∙_}
-use Prim.Native.Nat.{ℕ, zero, suc, _+_, _*_, _/_, _%_, _≤_, _<_}
+use Prim.Native.Nat.{ℕ, _+_, _*_, _/_, _%_, _≤_, _<_}
 use mathlib.Core.List.{List, [], _∷_, _++_, map}
 use native.Mathlib.Omega.{arith}
-use lib.ListN.{length, take, drop, take-append-drop}
+use lib.ListN.{take, drop, take-append-drop}
 use Rattle.published.proofs.Tests.{clash}
 use Rattle.ledger.specs.Book.{Sweep}
-use Rattle.ledger.specs.Seen.{sweepOf, heldIn}
+use Rattle.ledger.specs.Seen.{sweepIs, heldIn}
 
 pub packed : (s o t : ℕ) → o ≤ 65534 → t < 4294967296
-    → _≡_ {A = Sweep} (sweepOf (s * 281474976710656 + o * 4294967296 + t)) (record { sender = s; slot = o; tag = t })
+    → _≡_ {A = Sweep} (sweepIs (s * 281474976710656 + o * 4294967296 + t)) (record { sender = s; slot = o; tag = t })
 packed s o t h g =
     let a : (s * 281474976710656 + o * 4294967296 + t) / 281474976710656 ≡ s = omega arith in
     let d : (s * 281474976710656 + o * 4294967296 + t) / 4294967296 ≡ s * 65536 + o = omega arith in
@@ -27,19 +27,19 @@ parts-32 a b d m = omega arith
 div-div : (a : ℕ) → a / 4294967296 / 65536 ≡ a / 281474976710656
 div-div a = omega arith
 
-pub same-word : (a b : ℕ) → sweepOf a ≡ sweepOf b → a ≡ b
+pub same-word : (a b : ℕ) → sweepIs a ≡ sweepIs b → a ≡ b
 same-word a b e =
     parts-32 a b
     (parts-16 (a / 4294967296) (b / 4294967296) (div-div a ∙ ap (λ (x : Sweep). x .sender) e ∙ sym (div-div b)) (ap (λ (x : Sweep). x .slot) e))
     (ap (λ (x : Sweep). x .tag) e)
 
-same-list : (xs ys : List ℕ) → map sweepOf xs ≡ map sweepOf ys → xs ≡ ys
+same-list : (xs ys : List ℕ) → map sweepIs xs ≡ map sweepIs ys → xs ≡ ys
 same-list [] [] e = refl
 same-list [] (y ∷ ys) e = clash (cc)
 same-list (x ∷ xs) [] e = clash (cc)
 same-list (x ∷ xs) (y ∷ ys) e =
-    let h : sweepOf x ≡ sweepOf y = cc in
-    let t : map sweepOf xs ≡ map sweepOf ys = cc in
+    let h : sweepIs x ≡ sweepIs y = cc in
+    let t : map sweepIs xs ≡ map sweepIs ys = cc in
     λ i. same-word x y h i ∷ same-list xs ys t i
 
 -- the sweeps held and the words past them are all the words

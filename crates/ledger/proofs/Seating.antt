@@ -1,7 +1,7 @@
 -- Laws of `rowsOf`: a sender's row is that of its seat, a seat set anew is a row put anew, and nobody sits outside 1 to 16. Assumes nothing.
 use mathlib.Core.Path.{_≡_, refl, ap, sym, _∙_, fun-ext}
-use Prim.Native.Nat.{ℕ, zero, suc, _-_, _≤_, _<_}
-use mathlib.Core.Bool.{Bool, true, false, false≢true}
+use Prim.Native.Nat.{ℕ, zero, suc, _-_, _≤_}
+use mathlib.Core.Bool.{true, false, false≢true}
 use mathlib.Core.List.{List}
 use native.Mathlib.Omega.{arith}
 use lib.ListN.{length, getD, set, List·getD-eq-default, length-replicate, replicate, getD-replicate}
@@ -10,9 +10,8 @@ use lib.Dec.{leb}
 use borrow.Author.Tests.{leb-true, leb-false, le-leb}
 use Rattle.published.specs.Rounds.{isBench, put}
 use Rattle.published.proofs.Tests.{both, split}
-use Rattle.published.proofs.Updates.{put-ind, put-same, put-other}
-use Rattle.ledger.specs.declared.Row.{Row}
-use Rattle.ledger.specs.declared.Row.the-variants.{Unknown, Joined, Ended}
+use Rattle.published.proofs.Updates.{put-ind}
+use Rattle.ledger.specs.declared.Row.the-variants.{Unknown}
 use Rattle.ledger.specs.declared.Seat.{Seat}
 use Rattle.ledger.specs.Book as book
 use Rattle.ledger.specs.Seen.{rowIs, rowsOf}

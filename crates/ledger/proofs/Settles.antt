@@ -1,8 +1,8 @@
 -- Two answers that the promise of a step allows are equal: the number, the ledger, every word of the room, and of a hand-out every place
 -- of the receiving buffer. That a ledger has 16 seats is so by its type. Assumes nothing.
 use mathlib.Core.Path.{_≡_, refl, ap, sym, _∙_}
-use Prim.Native.Nat.{ℕ, zero, suc, _<_}
-use mathlib.Core.Bool.{Bool, cond, _&&_}
+use Prim.Native.Nat.{ℕ, suc}
+use mathlib.Core.Bool.{cond, _&&_}
 use mathlib.Core.List.{List}
 use native.Mathlib.Omega.{arith}
 use lib.ListN.{length, drop, getD}
@@ -10,7 +10,6 @@ use lib.Seq.{ext-getD}
 use lib.Dec.{eqb}
 use Rattle.published.proofs.Tests.{clash}
 use Rattle.kinds.specs.declared.SlotNo.{SlotNo}
-use Rattle.ledger.specs.declared.Cursor.{Cursor}
 use Rattle.ledger.specs.declared.Row.{Row}
 use Rattle.ledger.specs.declared.Row.the-variants.{Unknown, Joined, Ended}
 use Rattle.ledger.specs.declared.Seat.{Seat}

@@ -2,11 +2,11 @@
 use mathlib.Core.Path.{_≡_, refl, ap, sym, _∙_, fun-ext}
 use Prim.Native.Nat.{ℕ, zero, suc, _≤_, _<_}
 use mathlib.Core.Bool.{Bool, true, false, not, _&&_}
-use mathlib.Core.List.{List, [], _∷_, _++_, map, map-append, append-nil}
+use mathlib.Core.List.{List, [], _∷_, _++_, map, map-append}
 use native.Mathlib.Omega.{arith}
 use lib.Dec.{eqb, leb}
 use borrow.Author.Tests.{eqb-true, eq-eqb, ne-eqb, le-leb, lt-leb}
-use Rattle.published.proofs.Tests.{both, clash, split}
+use Rattle.published.proofs.Tests.{both, split}
 use Rattle.published.proofs.Worlds.{In}
 use Rattle.ledger.specs.Book.{Sweep, only, tagsOf, Book, swept, cut, advanced}
 use Rattle.ledger.specs.Traffic.{inOrder}

@@ -1,16 +1,16 @@
 -- What is proved of the ledger. The statements about books hold for every number of senders n and every list of steps, refused ones among
 -- them; those about the code cite its promises alone. The proofs are in the other files. Assumes nothing.
-use mathlib.Core.Path.{_≡_, refl, ap, sym, _∙_}
+use mathlib.Core.Path.{_≡_, refl}
 use Prim.Native.Nat.{ℕ, _+_, _≤_, _<_}
-use mathlib.Core.Bool.{Bool, true, false, _&&_}
-use mathlib.Core.List.{List, [], map}
+use mathlib.Core.Bool.{Bool, true, false}
+use mathlib.Core.List.{List, [], _∷_, map}
 use lib.ListN.{length}
 use Rattle.published.specs.Rounds as rounds
 use Rattle.published.specs.Rounds.{find, found, chosen, runFrom, newRun}
 use Rattle.ledger.specs.declared.Ledger.{Ledger}
 use Rattle.ledger.specs.declared.Told.{Told}
 use Rattle.ledger.specs.declared.Handed.{Handed}
-use Rattle.ledger.specs.Book.{Sweep, tagsOf, joined, Book, newBook, Step, end, handOut, Answer, answer, step}
+use Rattle.ledger.specs.Book.{Sweep, tagsOf, joined, Book, newBook, Step, end, handOut, answer, step}
 use Rattle.ledger.specs.Traffic.{bookFrom, accepted, dropped, handedOut, inOrder, along, tally}
 use Rattle.ledger.specs.Seen.{bookOf}
 use Rattle.ledger.specs.Promises.{Tells, Hands, Begins}
@@ -18,6 +18,9 @@ use Rattle.ledger.proofs.Only.{All}
 use Rattle.ledger.proofs.Tags as tags
 use Rattle.ledger.proofs.Tags.{sentFrom}
 use Rattle.ledger.proofs.Outcomes.{step-ind, after-done}
+use Rattle.published.proofs.Checks.{OneOf}
+use Rattle.ledger.proofs.Numbers as numbers
+use Rattle.ledger.proofs.Numbers.{refusals}
 use Rattle.ledger.proofs.Kept as kept
 use Rattle.ledger.proofs.Kept.{Kept, Holding, kept-new, kept-from}
 use Rattle.ledger.proofs.Accounts as accounts
@@ -90,6 +93,10 @@ module _ (n begin : ℕ) where
 -- The tags that a hand-out writes are those of the sweeps that it hands out, in their order.
 pub tags-are : (n k : ℕ) (l : List Sweep) → tagsOf n k l ≡ map (λ (w : Sweep). w .tag) (inOrder n k l)
 tags-are n k l = tags.tags-inOrder n k l
+
+-- A step answers 0 or one of the numbers that document 01 lists for it.
+pub number-among : (n : ℕ) (b : Book) (s : Step) → OneOf (step n b s .number) (0 ∷ refusals s)
+number-among = numbers.number-among
 
 -- A refusal leaves the book and writes nothing.
 pub refused-same : (n : ℕ) (b : Book) (s : Step) → (step n b s .number ≡ 0 → ⊥) → step n b s ≡ answer (step n b s .number) [] b

@@ -1,5 +1,5 @@
 -- What each step of the code promises: document 01's answer and book, and what becomes of the count and of every word that is lent.
--- Two answers that one promise allows are equal (proofs/Settles).
+-- This file is to be believed. Two answers that one promise allows are equal (proofs/Settles), so nothing is left open.
 use mathlib.Core.Path.{_≡_}
 use Prim.Native.Nat.{ℕ, zero, suc}
 use mathlib.Core.Bool.{Bool, true, false, cond, _&&_}
@@ -11,7 +11,7 @@ use Rattle.ledger.specs.declared.Told.{Told}
 use Rattle.ledger.specs.declared.HandOut.{HandOut}
 use Rattle.ledger.specs.declared.HandOut.the-variants.{Written, Refused}
 use Rattle.ledger.specs.declared.Handed.{Handed}
-use Rattle.ledger.specs.Book.{Step, join, sweep, close, end, handOut, Answer, step, newBook}
+use Rattle.ledger.specs.Book.{Step, join, sweep, close, end, handOut, step, newBook}
 use Rattle.ledger.specs.Seen.{bookOf}
 
 -- does the step change what is held
@@ -22,7 +22,7 @@ movesHeld (sweep s t) = true
 movesHeld (end s e) = true
 movesHeld (handOut room) = true
 
--- a step of ledger l with the words of its room, answered a: r is told, and the room has words′
+-- step s of ledger l, whose room has the words: r is told, and the room has words′
 pub record Tells (l : Ledger) (words : List ℕ) (s : Step) (r : Told) (words′ : List ℕ) : Type 0 where
   pub number-is : r .number ≡ step 16 (bookOf l words) s .number
   pub book-is : bookOf (r .ledger) words′ ≡ step 16 (bookOf l words) s .book

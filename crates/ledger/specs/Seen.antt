@@ -1,7 +1,6 @@
--- What the code's ledger and its room stand for: the one function `bookOf` by which every promise sees them.
--- This file is to be believed with the promises that cite it.
+-- What the code's ledger and its room stand for: `bookOf`, the one function by which every promise sees them.
+-- This file is to be believed.
 use Prim.Native.Nat.{ℕ, zero, suc, _/_, _%_}
-use mathlib.Core.Bool.{Bool}
 use mathlib.Core.List.{List, map}
 use lib.ListN.{getD, take}
 use Rattle.ledger.specs.declared.Row.{Row}
@@ -21,12 +20,12 @@ rowsOf seats zero = book.unknown
 rowsOf seats (suc i) = rowIs (getD seats i (record { row = Unknown }) .row)
 
 -- a word of the room: the tag in its low 32 bits, then 16 bits of slot, then 16 bits of sender
-abbrev pub sweepOf : ℕ → book.Sweep
-sweepOf w = record { sender = w / 281474976710656; slot = w / 4294967296 % 65536; tag = w % 4294967296 }
+abbrev pub sweepIs : ℕ → book.Sweep
+sweepIs w = record { sender = w / 281474976710656; slot = w / 4294967296 % 65536; tag = w % 4294967296 }
 
 -- the sweeps in the first k words, in order of arrival
 unfoldable pub heldIn : ℕ → List ℕ → List book.Sweep
-heldIn k words = map sweepOf (take k words)
+heldIn k words = map sweepIs (take k words)
 
 unfoldable pub bookOf : Ledger → List ℕ → book.Book
 bookOf l words = record { next = l .cursor .next .0; rows = rowsOf (l .seats); held = heldIn (l .cursor .held) words }

@@ -1,5 +1,5 @@
--- What happens to sweeps along a list of steps: which are accepted, handed out and dropped. These are the words of the theorem that no
--- sweep is lost (proofs/Theorems); believe them with it.
+-- What happens to sweeps along a list of steps: which are accepted, handed out and dropped.
+-- This file is to be believed with the theorem that no sweep is lost (proofs/Theorems).
 use Prim.Native.Nat.{ℕ, zero, suc}
 use mathlib.Core.Bool.{Bool, cond, _&&_}
 use mathlib.Core.List.{List, [], _∷_, _++_}

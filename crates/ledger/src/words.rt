@@ -2,7 +2,7 @@
 ghost use mathlib.Core.Path.{_≡_};
 ghost use Prim.Native.Nat.{_≤_, min};
 ghost use lib.ListN.{length};
-ghost use Rattle.ledger.specs.Seen.{sweepOf};
+ghost use Rattle.ledger.specs.Seen.{sweepIs};
 ghost use Rattle.ledger.specs.Words.{within, TakesOut};
 use kinds::BenchNo;
 use kinds::SlotNo;
@@ -16,31 +16,31 @@ pub(crate) enum Part {
 // The word of a sweep.
 pub(crate) fn word(sender: BenchNo, slot: SlotNo, tag: u32) -> u64
     requires { ⌜ (sender .0 ≤ 16) × (slot .0 ≤ 65534) ⌝ }
-    ensures { λ r. ⌜ sweepOf r ≡ record { sender = sender .0; slot = slot .0; tag = tag } ⌝ }
+    ensures { λ r. ⌜ sweepIs r ≡ record { sender = sender .0; slot = slot .0; tag = tag } ⌝ }
 {
     sender.0 as u64 * 281474976710656 + slot.0 as u64 * 4294967296 + tag as u64
 }
 
 pub(crate) fn sender_of(w: u64) -> u64
-    ensures { λ r. ⌜ r ≡ sweepOf w .sender ⌝ }
+    ensures { λ r. ⌜ r ≡ sweepIs w .sender ⌝ }
 {
     w / 281474976710656
 }
 
 pub(crate) fn slot_of(w: u64) -> u64
-    ensures { λ r. ⌜ r ≡ sweepOf w .slot ⌝ }
+    ensures { λ r. ⌜ r ≡ sweepIs w .slot ⌝ }
 {
     w / 4294967296 % 65536
 }
 
 pub(crate) fn tag_of(w: u64) -> u32
-    ensures { λ r. ⌜ r ≡ sweepOf w .tag ⌝ }
+    ensures { λ r. ⌜ r ≡ sweepIs w .tag ⌝ }
 {
     (w % 4294967296) as u32
 }
 
 fn is_in(w: u64, part: Part) -> bool
-    ensures { λ r. ⌜ r ≡ within part (sweepOf w) ⌝ }
+    ensures { λ r. ⌜ r ≡ within part (sweepIs w) ⌝ }
 {
     match part {
         Part::Of(slot) => slot_of(w) == slot.0 as u64,

@@ -1,5 +1,4 @@
 -- `ledger::sweeping::end_in` meets its contract: each way through is a lemma of `Answered`.
-use native.Mathlib.Omega.{arith}
 use Rattle.ledger.proofs.Answered.{is-sender, end-1, end-15, end-16, end-18, end-19, end-done}
 use borrow.Author.Needs.{needs}
 use Rattle.ledger.proofs.sweeping.end_in.Statement.{statement}
