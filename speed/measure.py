@@ -59,10 +59,24 @@ def build_plugin(folder):
     subprocess.run(["gcc", *flags, "-o", folder / "count.so", HERE / "count.c"], check=True)
 
 
-def build_c(folder, source):
+def build_c(folder, source, *more, name=None):
     """Builds a C program for x86-64. It is static: no loader, and no library that is not in it."""
-    flags = ["-std=c11", "-O2", "-Wall", "-Wextra", "-Werror", "-static"]
-    subprocess.run([compiler(), *flags, "-o", folder / source.stem, source], check=True)
+    flags = ["-std=gnu11", "-O2", "-Wall", "-Wextra", "-Werror", "-static", *more]
+    subprocess.run([compiler(), *flags, "-o", folder / (name or source.stem), source], check=True)
+
+
+def counted(folder, words, data):
+    """The instructions that a program in the folder executes on its input, and what it prints."""
+    with tempfile.TemporaryFile(dir=folder) as text, tempfile.TemporaryFile(dir=folder) as report:
+        text.write(data)
+        text.seek(0)
+        ran = subprocess.run([shutil.which(EMULATOR), "-cpu", CPU, "-plugin", "./count.so", *words], cwd=folder, env={}, stdin=text,
+                             stdout=report, stderr=subprocess.PIPE, text=True, check=False)
+        number = re.search(r"^instructions=(\d+)$", ran.stderr, re.M)
+        if ran.returncode or not number:
+            programs.stop(f"{words}: status {ran.returncode}, {ran.stderr}")
+        report.seek(0)
+        return int(number[1]), report.read()
 
 
 class Meter:
@@ -71,7 +85,6 @@ class Meter:
     def __init__(self, folder, proved):
         self.folder = folder
         build_plugin(folder)
-        self.emulator = shutil.which(EMULATOR)
         build_c(folder, programs.TOP / "second" / "second.c")
         build_c(folder, HERE / "shipped.c")
         (folder / "lib").symlink_to(programs.kit_tools() / "lib")
@@ -88,16 +101,7 @@ class Meter:
 
     def run(self, words, data):
         """The instructions that a program executes on a text, and what it prints."""
-        with tempfile.TemporaryFile(dir=self.folder) as text, tempfile.TemporaryFile(dir=self.folder) as report:
-            text.write(data)
-            text.seek(0)
-            ran = subprocess.run([self.emulator, "-cpu", CPU, "-plugin", "./count.so", *words], cwd=self.folder, env={}, stdin=text,
-                                 stdout=report, stderr=subprocess.PIPE, text=True, check=False)
-            counted = re.search(r"^instructions=(\d+)$", ran.stderr, re.M)
-            if ran.returncode or not counted:
-                programs.stop(f"{words}: status {ran.returncode}, {ran.stderr}")
-            report.seek(0)
-            return int(counted[1]), report.read()
+        return counted(self.folder, words, data)
 
     def counts(self, kind, data):
         """The instructions of the proved program, second.c and shipped.c, which must print the same."""
