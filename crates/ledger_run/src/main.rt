@@ -1,5 +1,7 @@
 // Plays a ledger script from standard input on a new ledger, and prints its report: docs/LEDGER-SCRIPT.md. All that is decided is decided in
 // `script`; here lines are cut out and bytes are moved.
+mod printing; // printing.rt: the report's lines
+
 use kinds::SlotNo;
 use ledger::Ledger;
 use libc::STDIN_FILENO;
@@ -8,7 +10,6 @@ use runtext::bytes;
 use script::Line;
 use script::Played;
 use script::playing;
-use script::printing;
 use script::reading;
 
 // What was played so far: the ledger, and how many lines, of which so many were not answered 0.

@@ -1,4 +1,4 @@
-// A ledger script: a line read, a step played on a ledger, and the lines of the report. docs/LEDGER-SCRIPT.md is the format;
+// A ledger script: a line read, and a step played on a ledger. docs/LEDGER-SCRIPT.md is the format;
 // specs/Script.antt says what a line means and what playing it does.
 ghost use mathlib.Core.Path.{_≡_};
 use kinds::BenchNo;
@@ -7,7 +7,6 @@ use ledger::Ledger;
 
 pub mod reading; // reading.rt: a line read
 pub mod playing; // playing.rt: a step played
-pub mod printing; // printing.rt: the report's lines
 
 // A ledger step as a script spells it. A sweep has a tag; a hand-out has the places of the receiving buffer.
 pub enum Step {

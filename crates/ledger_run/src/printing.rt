@@ -1,10 +1,10 @@
 // The lines of a report, each at the front of a buffer: the answer is how many bytes it has. A buffer that is too short cuts a line.
-use crate::Played;
 use kinds::BenchNo;
 use ledger::Ledger;
 use ledger::Row;
 use runtext::bytes;
 use runtext::decimal;
+use script::Played;
 
 // `line=9 answer=0`, without its end.
 fn answer_line(buf: &mut [u8], line: u32, number: u32) -> usize {
@@ -43,7 +43,7 @@ fn put_count(buf: &mut [u8], at: usize, key: &[u8], count: usize) -> usize {
 }
 
 // A line's answer: `line=9 answer=0 count=3 tags=98,99,97`, or `line=9 answer=22`.
-pub fn report_line(buf: &mut [u8], line: u32, played: Played, tags: &[u32]) -> usize {
+pub(crate) fn report_line(buf: &mut [u8], line: u32, played: Played, tags: &[u32]) -> usize {
     let a = answer_line(buf, line, played.number);
     if played.handed {
         let b = put_tags(buf, a, tags, played.count);
@@ -53,7 +53,7 @@ pub fn report_line(buf: &mut [u8], line: u32, played: Played, tags: &[u32]) -> u
 }
 
 // `sender=1 first=0 open=2 end=none`, for a sender that has joined; else nothing.
-pub fn sender_line(buf: &mut [u8], ledger: Ledger, sender: u32) -> usize {
+pub(crate) fn sender_line(buf: &mut [u8], ledger: Ledger, sender: u32) -> usize {
     let row = ledger::row_of(ledger, BenchNo(sender));
     match row {
         Row::Unknown => 0,
@@ -76,14 +76,14 @@ fn row_line(buf: &mut [u8], sender: u32, first: u32, open: u32) -> usize {
 }
 
 // `next=1 held=0`.
-pub fn cursor_line(buf: &mut [u8], ledger: Ledger) -> usize {
+pub(crate) fn cursor_line(buf: &mut [u8], ledger: Ledger) -> usize {
     let a = decimal::put_field(buf, 0, b"next=", ledger.cursor.next.0);
     let b = put_count(buf, a, b" held=", ledger.cursor.held);
     bytes::put_bytes(buf, b, b"\n")
 }
 
 // `lines=10 refused=0`.
-pub fn totals_line(buf: &mut [u8], lines: u32, refused: u32) -> usize {
+pub(crate) fn totals_line(buf: &mut [u8], lines: u32, refused: u32) -> usize {
     let a = decimal::put_field(buf, 0, b"lines=", lines);
     let b = decimal::put_field(buf, a, b" refused=", refused);
     bytes::put_bytes(buf, b, b"\n")

@@ -1,10 +1,10 @@
--- `script::printing::put_tags` is safe and ends: a turn for each tag.
+-- `ledger_run::printing::put_tags` is safe and ends: a turn for each tag.
 use Prim.Native.Nat.{_-_, _≤_}
 use mathlib.Core.Path.{_≡_}
 use lib.ListN.{length}
 use borrow.Author.Needs.{needs}
-use Rattle.script.proofs.printing.put_tags.Statement.{statement}
-use Rattle.script.proofs.printing.put_tags.Tie as tie
+use Rattle.ledger_run.proofs.printing.put_tags.Statement.{statement}
+use Rattle.ledger_run.proofs.printing.put_tags.Tie as tie
 
 abbrev Inv-loop : tie.InvT-loop
 Inv-loop buf₀ at tags count o₀ i₀ buf o i = (i ≤ count) × (length buf ≡ length buf₀)
