@@ -1,6 +1,6 @@
 -- Laws of sets of benches as words, and of `some`, a visit of the places below n. Assumes nothing.
-use mathlib.Core.Path.{_≡_, refl, sym, ap, _∙_, subst}
-use mathlib.Core.Bool.{Bool, true, false, _||_}
+use mathlib.Core.Path.{_≡_, sym, ap, _∙_, subst}
+use mathlib.Core.Bool.{Bool, true, false, _||_, or-true}
 use mathlib.Core.Logic.{⊎-elim}
 use Prim.Native.Nat.{ℕ, zero, suc, _+_, _-_, _%_, _^_, _<_, _≤_}
 use native.Mathlib.Nat.{mod-eq-of-lt, le-of-suc-le-suc, not-suc-le-zero, le-antisymm, eq-or-lt-of-le, zero-lt-suc, div-eq-of-lt, mul-mod-left, pow-le-pow-right, lt-of-lt-of-le}
@@ -23,10 +23,6 @@ pub only-small : (k : ℕ) → k < 32 → 2 ^ k % 2 ^ 32 ≡ 2 ^ k
 only-small k h = mod-eq-of-lt (pow-lt {j = 32} h)
 
 -- ---- a visit of the places: found at k, passed k, found none
-
-or-true : (a : Bool) → a || true ≡ true
-or-true true = refl
-or-true false = refl
 
 some-at : (p : ℕ → Bool) (k n : ℕ) → k < n → p k ≡ true → some p n ≡ true
 unfolding some

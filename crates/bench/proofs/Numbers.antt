@@ -4,9 +4,9 @@ use mathlib.Core.Bool.{Bool, true, false}
 use Prim.Native.Nat.{ℕ, _-_, _<_, _≤_}
 use native.Mathlib.Omega.{arith}
 use lib.Dec.{leb}
-use borrow.Author.Tests.{leb-true, le-leb, lt-leb}
+use borrow.Author.Tests.{le-leb, lt-leb}
 use Rattle.published.specs.Rounds.{isBench}
-use Rattle.published.proofs.Tests.{both}
+use Rattle.published.proofs.Moves.{bench-in}
 use Rattle.kinds.specs.declared.Message.{Message}
 use Rattle.bench.specs.Changes.{takeOf, takeFrom, noticeOf, noticeFrom}
 use Rattle.bench.specs.declared.Bench.{Bench}
@@ -20,13 +20,11 @@ unfolding isBench
 bench-top b h = rw (le-leb 1 b h) refl
 
 pub bench-first : (f : ℕ) → isBench 16 f ≡ true → 1 ≤ f
-unfolding isBench
-bench-first f e = leb-true 1 f (both (leb 1 f) (leb f 16) e .0)
+bench-first f e = bench-in 16 f e .0
 
 -- a bench has a place below 16
 pub bench-place : (f : ℕ) → isBench 16 f ≡ true → f - 1 < 16
-unfolding isBench
-bench-place f e = omega (arith, bench-first f e, leb-true f 16 (both (leb 1 f) (leb f 16) e .1))
+bench-place f e = omega (arith, bench-in 16 f e)
 
 module _ (f : ℕ) (q : Bool) (is-q : q ≡ isBench 16 f) where
   pub known : q ≡ true → isBench 16 f ≡ true

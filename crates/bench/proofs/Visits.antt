@@ -1,6 +1,6 @@
 -- One law for each way through what a bench asks of a member, and one step of the least value. Assumes nothing.
 use mathlib.Core.Path.{_≡_, refl, sym, _∙_}
-use mathlib.Core.Bool.{Bool, true, false, cond, not, _&&_, _||_}
+use mathlib.Core.Bool.{Bool, true, false, not}
 use mathlib.Core.List.{List}
 use Prim.Native.Nat.{ℕ, _+_, min}
 use native.Mathlib.Numerals.{add-one}
@@ -9,7 +9,7 @@ use lib.ListN.{getD}
 use lib.Bits.{bitAnd}
 use borrow.Author.Tests.{not-true, not-false, eq-eqb, ne-eqb}
 use Rattle.bench.specs.Sets.{has}
-use Rattle.bench.specs.Turns.{awaitedAt, differs, forbidsAt, least}
+use Rattle.bench.specs.Turns.{awaitedAt, differs, forbidsBy, forbidsAt, least}
 use Rattle.bench.specs.declared.Bench.{Bench}
 use Rattle.bench.specs.declared.Heard.{Heard}
 
@@ -32,26 +32,26 @@ module _ (b : Bench) (h : Heard) (k : ℕ) (m : Bool) (is-m : m ≡ has (b .worl
       unfolding awaitedAt
       awaited-unnoticed g t is-g = rw (sym is-m ∙ not-false m member, sym is-s ∙ unheard, sym is-o ∙ t, is-g) refl
 
--- what a member says forbids a decision, and the same of what is heard of place k
-abbrev says : Bench → ℕ → Bool → ℕ → ℕ → Bool
-says b k s v w = has (b .world) k && cond s (not (eqb v (b .value .0)) || not (eqb (bitAnd w (b .world)) w)) (not (has (b .outs) k))
-
 module _ (b : Bench) (k : ℕ) (s : Bool) (v w : ℕ) (m : Bool) (is-m : m ≡ has (b .world) k) where
-  pub forbids-stranger : not m ≡ true → false ≡ says b k s v w
+  pub forbids-stranger : not m ≡ true → false ≡ forbidsBy b k s v w
+  unfolding forbidsBy
   forbids-stranger t = rw (sym is-m ∙ not-true m t) refl
 
   module _ (member : not m ≡ false) where
-    pub forbids-unheard : (o : Bool) → o ≡ has (b .outs) k → not s ≡ true → not o ≡ says b k s v w
+    pub forbids-unheard : (o : Bool) → o ≡ has (b .outs) k → not s ≡ true → not o ≡ forbidsBy b k s v w
+    unfolding forbidsBy
     forbids-unheard o is-o t = rw (sym is-m ∙ not-false m member, not-true s t, is-o) refl
 
-    pub forbids-value : not s ≡ false → (v ≡ b .value .0 → ⊥) → true ≡ says b k s v w
+    pub forbids-value : not s ≡ false → (v ≡ b .value .0 → ⊥) → true ≡ forbidsBy b k s v w
+    unfolding forbidsBy differs
     forbids-value t ne = rw (sym is-m ∙ not-false m member, not-false s t, ne-eqb v (b .value .0) ne) refl
 
-    pub forbids-world : not s ≡ false → v ≡ b .value .0 → not (eqb (bitAnd w (b .world)) w) ≡ says b k s v w
+    pub forbids-world : not s ≡ false → v ≡ b .value .0 → not (eqb (bitAnd w (b .world)) w) ≡ forbidsBy b k s v w
+    unfolding forbidsBy differs
     forbids-world t e = rw (sym is-m ∙ not-false m member, not-false s t, eq-eqb v (b .value .0) e) refl
 
-pub forbids-heard : (b : Bench) (h : Heard) (k : ℕ) (q s : Bool) → s ≡ has (h .set) k → q ≡ says b k s (getD (h .values) k 0) (getD (h .worlds) k 0) → q ≡ forbidsAt b h k
-unfolding forbidsAt differs
+pub forbids-heard : (b : Bench) (h : Heard) (k : ℕ) (q s : Bool) → s ≡ has (h .set) k → q ≡ forbidsBy b k s (getD (h .values) k 0) (getD (h .worlds) k 0) → q ≡ forbidsAt b h k
+unfolding forbidsAt
 forbids-heard b h k q s e p = p ∙ rw e refl
 
 -- one more place of the least value

@@ -1,5 +1,5 @@
 -- A set of benches is a number: place k, which is bench k + 1, is bit k.
-use mathlib.Core.Bool.{Bool, true, false, _||_}
+use mathlib.Core.Bool.{Bool, false, _||_}
 use Prim.Native.Nat.{ℕ, zero, suc, _/_, _%_, _^_}
 use lib.Dec.{eqb}
 

@@ -1,5 +1,5 @@
 -- A turn of a bench by value: what it makes of what it has heard of its round. N benches, R rounds.
-use mathlib.Core.Bool.{Bool, true, false, cond, not, _&&_, _||_}
+use mathlib.Core.Bool.{Bool, cond, not, _&&_, _||_}
 use Prim.Native.Nat.{ℕ, zero, suc, _+_, min}
 use mathlib.Core.List.{List}
 use lib.Dec.{eqb, ltb}
@@ -22,13 +22,16 @@ awaitedAt b h k = has (b .world) k && (not (has (h .set) k) && (not (has (b .out
 unfoldable pub awaitsOf : ℕ → Bench → Heard → Bool
 awaitsOf N b h = some (awaitedAt b h) N
 
--- what was heard of k is not the bench's own value, or its world is not within the bench's own
-unfoldable pub differs : Bench → Heard → ℕ → Bool
-differs b h k = not (eqb (getD (h .values) k 0) (b .value .0)) || not (eqb (bitAnd (getD (h .worlds) k 0) (b .world)) (getD (h .worlds) k 0))
+-- the value v is not the bench's own, or the world w is not within the bench's own
+unfoldable pub differs : Bench → ℕ → ℕ → Bool
+differs b v w = not (eqb v (b .value .0)) || not (eqb (bitAnd w (b .world)) w)
 
--- k is a member that forbids a decision: neither heard nor excused, or heard and different
+-- k is a member that forbids a decision: neither heard nor excused, or heard with a value and a world that differ
+unfoldable pub forbidsBy : Bench → ℕ → Bool → ℕ → ℕ → Bool
+forbidsBy b k heard v w = has (b .world) k && cond heard (differs b v w) (not (has (b .outs) k))
+
 unfoldable pub forbidsAt : Bench → Heard → ℕ → Bool
-forbidsAt b h k = has (b .world) k && cond (has (h .set) k) (differs b h k) (not (has (b .outs) k))
+forbidsAt b h k = forbidsBy b k (has (h .set) k) (getD (h .values) k 0) (getD (h .worlds) k 0)
 
 unfoldable pub forbidsOf : ℕ → Bench → Heard → Bool
 forbidsOf N b h = some (forbidsAt b h) N

@@ -1,12 +1,8 @@
 // A bench's turn, in three visits of the members of its world: is one awaited, does one forbid a decision, what was heard.
 
 ghost use mathlib.Core.Path.{_≡_};
-ghost use mathlib.Core.Bool.{cond, not, _&&_, _||_};
 ghost use Prim.Native.Nat.{_<_};
-ghost use lib.Dec.{eqb};
-ghost use lib.Bits.{bitAnd};
-ghost use Rattle.bench.specs.Sets.{has};
-ghost use Rattle.bench.specs.Turns.{awaitedAt, awaitsOf, forbidsOf, gatherOf, refuses, concludes, goOnOf, turnOf};
+ghost use Rattle.bench.specs.Turns.{awaitedAt, awaitsOf, forbidsBy, forbidsOf, gatherOf, refuses, concludes, goOnOf, turnOf};
 use crate::Answer;
 use crate::Bench;
 use crate::Gathered;
@@ -101,7 +97,7 @@ impl Bench {
     // Whether place k is a member that forbids a decision: heard with another value or with a world not within the bench's own, or
     // neither heard nor excused.
     fn forbids_at(self, k: usize, heard: bool, value: u32, world: u32) -> bool
-        ensures { λ r. ⌜ r ≡ (has (self .world) k && cond heard (not (eqb value (self .value .0)) || not (eqb (bitAnd world (self .world)) world)) (not (has (self .outs) k))) ⌝ }
+        ensures { λ r. ⌜ r ≡ forbidsBy self k heard value world ⌝ }
     {
         if !has(self.world, k) {
             return false;

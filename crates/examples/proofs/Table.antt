@@ -1,12 +1,12 @@
 -- P1 to P10 of document 01 as one table under one statement, over the definitions of steps, text and ledger, by computation.
 -- A world is written in binary: 0b011 is benches 1 and 2. Where an example is silent, values are 5 and all benches are in the world.
-use Prim.Native.Nat.{ℕ, zero, suc}
+use Prim.Native.Nat.{ℕ}
 use Prim.Native.String.{String}
 use mathlib.Core.Path.{_≡_, refl}
 use mathlib.Core.Bool.{Bool, true, false, _&&_}
 use mathlib.Core.List.{List, [], _∷_}
 use lib.Dec.{eqb}
-use Rattle.published.specs.Rounds.{Run, newRun, newBench, State, fresh, running, decided, abstained, left, failed, Decision, none, chosen, Bench, Step, start, abstain, leave, fail, turn, arrive, notice, Answer, step, upTo}
+use Rattle.published.specs.Rounds.{Run, newRun, newBench, State, fresh, running, decided, abstained, left, failed, Decision, none, chosen, Step, start, abstain, leave, fail, turn, arrive, notice, step, upTo}
 use Rattle.published.specs.Rounds.{bit, member, every, worldOf, everyIn, within, put, find, hasOut, viewOf, got, see, agrees, isAwaited, isHeard, decides, decidesOn, settled, settledOn, nextWorld, heardOn, lesser, nextValue, leastOn, inState, inRound, sending, taking, noticing, choosing, entering, parting, deciding, advancing, turned, leaving, isBench, isFresh, isRunning, isFailed, isGone, hasStarted, startedWith, hasAll, inAll, waiting, some, takingFirst, allows, checks, after, refuse, done, judge}
 use Rattle.kinds.specs.Stand.{stepOf}
 use Rattle.runtext.specs.Spelling.{ascii}

@@ -1,5 +1,4 @@
 -- What the kinds stand for in the published rounds. This file is to be believed.
-use Rattle.kinds.specs.declared.RoundMessage.{RoundMessage}
 use Rattle.kinds.specs.declared.Message.{Message}
 use Rattle.kinds.specs.declared.Message.the-variants as message
 use Rattle.kinds.specs.declared.Step.{Step}

@@ -5,8 +5,8 @@ use mathlib.Core.Bool.{Bool, true, false, not}
 use mathlib.Core.List.{List, [], _∷_, _++_, map}
 use native.Mathlib.Numerals.{add-one}
 use native.Mathlib.Omega.{arith}
-use lib.ListN.{length, take, drop, getD, set, length-append, length-map, length-set}
-use lib.Seq.{take-suc}
+use lib.ListN.{length, take, drop, getD, set, length-append, length-map, length-set, take-append-drop}
+use lib.Seq.{take-suc, length-take-le}
 use lib.Dec.{eqb, leb}
 use borrow.Author.Tests.{eq-eqb, ne-eqb}
 use Rattle.ledger.specs.Book.{Sweep, only}
@@ -17,14 +17,14 @@ use Rattle.ledger.specs.declared.words.Part.the-variants.{Of, From}
 use Rattle.kinds.specs.declared.BenchNo.{BenchNo}
 use Rattle.kinds.specs.declared.SlotNo.{SlotNo}
 use Rattle.ledger.specs.Words.{within, TakesOut}
-use Rattle.ledger.proofs.Only.{snoc-yes, snoc-no, only-map}
+use Rattle.ledger.proofs.Only.{snoc-yes, snoc-no, only-map, only-rest}
 use Rattle.ledger.proofs.Laid.{laid-more, laid-past, laid-front, laid-rest}
 
 -- ---- whether a word is in a part
 
 module _ (w : ℕ) (p : Part) where
-  pub in-slot : (k : SlotNo) (x : ℕ) → p ≡ Of k → x ≡ sweepIs w .slot → eqb x (k .0) ≡ within p (sweepIs w)
-  in-slot k x is e = rw (is, e)
+  pub in-slot : (k : SlotNo) (t : Bool) → p ≡ Of k → t ≡ eqb (sweepIs w .slot) (k .0) → t ≡ within p (sweepIs w)
+  in-slot k t is e = rw (is, e)
 
   pub in-other : (s : BenchNo) (e : SlotNo) (x : ℕ) → p ≡ From s e → x ≡ sweepIs w .sender → (x ≡ s .0 → ⊥) → false ≡ within p (sweepIs w)
   in-other s e x is q ne = rw (is, ← q, ne-eqb x (s .0) ne)
@@ -46,9 +46,18 @@ pub record Compacting (p : Sweep → Bool) (old : List ℕ) (i : ℕ) (words : L
   pub count-is : k ≡ length (staying p old i)
   pub words-are : words ≡ laid (staying p old i) old
 
-pub compacting-none : (p : Sweep → Bool) (old : List ℕ) → Compacting p old 0 old 0
-unfolding only laid
-compacting-none p old = record { passed = omega arith; below = omega arith; length-is = refl; count-is = refl; words-are = refl }
+-- before the first word that goes nothing moves
+pub compacting-none : (p : Sweep → Bool) (old : List ℕ) (i : ℕ) → i ≤ length old → only p (heldIn i old) ≡ [] → Compacting p old i old i
+unfolding laid heldIn
+compacting-none p old i h e =
+    let none : only (λ w. p (sweepIs w)) (take i old) ≡ [] = map-none sweepIs (only (λ w. p (sweepIs w)) (take i old)) (sym (only-map sweepIs p (take i old)) ∙ e) in
+    let m : staying p old i ≡ take i old = only-rest (λ w. p (sweepIs w)) (take i old) none in
+    let n : length (take i old) ≡ i = length-take-le i old h in
+    record { passed = h; below = omega arith; length-is = refl; count-is = sym (ap length m ∙ n); words-are = rw (m, n) (sym (take-append-drop i old)) }
+  where
+    map-none : {A B : Type 0} (f : A → B) (l : List A) → map f l ≡ [] → l ≡ []
+    map-none f [] q = refl
+    map-none f (x ∷ l) q = absurd (omega (arith, ap length q))
 
 module _ (p : Sweep → Bool) (old : List ℕ) (i : ℕ) (words : List ℕ) (k : ℕ) (inv : Compacting p old i words k) where
   -- the word that is read has not been written yet

@@ -1,6 +1,6 @@
 -- A sender that has joined stays known, and its open slot never falls; a sender that has ended has no sweep left from its end on, and
 -- none of them is ever handed out. Assumes nothing.
-use mathlib.Core.Path.{_≡_, refl, sym}
+use mathlib.Core.Path.{_≡_, sym}
 use Prim.Native.Nat.{ℕ, zero, suc, _≤_}
 use mathlib.Core.Bool.{true, false, cond, not}
 use mathlib.Core.List.{List, [], _∷_}

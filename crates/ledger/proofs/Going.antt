@@ -1,8 +1,9 @@
 -- The visit of the 16 seats that asks whether a slot may go out: a turn of it, and both its ends. Assumes nothing.
-use mathlib.Core.Path.{_≡_, refl, ap, sym, _∙_}
-use Prim.Native.Nat.{ℕ, _+_, _-_, _≤_, _<_}
+use mathlib.Core.Path.{_≡_, ap, sym, _∙_}
+use Prim.Native.Nat.{ℕ, _+_, _≤_, _<_}
 use mathlib.Core.Bool.{Bool, true, false, not, _||_, false≢true}
 use mathlib.Core.List.{List}
+use native.Mathlib.Numerals.{add-one}
 use native.Mathlib.Omega.{arith}
 use lib.ListN.{getD}
 use lib.Dec.{ltb}
@@ -15,7 +16,7 @@ use Rattle.ledger.specs.declared.Seat.{Seat}
 use Rattle.ledger.specs.Book as book
 use Rattle.ledger.specs.Book.{isMember, openSlot, mayGo}
 use Rattle.ledger.specs.Seen.{rowIs, rowsOf}
-use Rattle.ledger.proofs.Seating.{nobody, rows-at}
+use Rattle.ledger.proofs.Seating.{nobody}
 
 -- it is no member of slot k, or has closed it
 abbrev pub letsGo : ℕ → book.Row → Bool
@@ -27,9 +28,8 @@ Going k seats i = (i ≤ 16) × (every i (λ s. letsGo k (rowsOf seats s)) ≡ t
 
 module _ (k : ℕ) (seats : List Seat) (i : ℕ) (row : Row) (is : row ≡ getD seats i nobody .row) (t : Bool) (told : t ≡ letsGo k (rowIs row)) where
   seat-row : letsGo k (rowsOf seats (i + 1)) ≡ t
-  seat-row =
-      let e : i + 1 - 1 ≡ i = omega arith in
-      ap (letsGo k) (rows-at seats (i + 1) (omega arith) ∙ ap (λ (j : ℕ). rowIs (getD seats j nobody .row)) e ∙ ap rowIs (sym is)) ∙ sym told
+  unfolding rowsOf
+  seat-row = let e : rowsOf seats (i + 1) ≡ rowIs row = rw (add-one, is) in ap (letsGo k) e ∙ sym told
 
   pub going-next : Going k seats i → i < 16 → not t ≡ false → Going k seats (i + 1)
   going-next g h e = (omega arith, every-next i (λ s. letsGo k (rowsOf seats s)) ∙ rw (g .1) (seat-row ∙ not-false t e))

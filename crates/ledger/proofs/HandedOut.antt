@@ -6,7 +6,7 @@ use mathlib.Core.Bool.{Bool, true, false, not}
 use mathlib.Core.List.{List}
 use native.Mathlib.Numerals.{add-one}
 use native.Mathlib.Omega.{arith}
-use lib.ListN.{length}
+use lib.ListN.{length, replicate, length-replicate, getD-replicate}
 use lib.Dec.{eqb, eqb·suc-zero}
 use borrow.Author.Tests.{not-true, not-false, le-leb, lt-leb}
 use Rattle.published.proofs.Checks.{Holds, nothing, also, Fails, here, later}
@@ -17,16 +17,15 @@ use Rattle.ledger.specs.declared.order.Starts.{Starts}
 use Rattle.ledger.specs.Book.{handOut, answer, checks, after, advanced, mayGo, tagsOf}
 use Rattle.ledger.specs.Seen.{rowsOf, heldIn, bookOf}
 use Rattle.ledger.specs.Advancing.{advancedOf}
-use Rattle.ledger.specs.Words.{TakesOut}
+use Rattle.ledger.specs.Words.{NoneOf, TakesOut}
 use Rattle.ledger.specs.Order.{Starting}
 use Rattle.ledger.specs.Promises.{Hands, movesHeld, numberOf, handOutOf, laid}
 use Rattle.ledger.proofs.Judging.{step-fails, step-holds}
 use Rattle.ledger.proofs.Answered.{told, refused, done, held-min}
+use Rattle.ledger.proofs.Compacting.{compacting-none, compacting-out}
+use Rattle.ledger.proofs.Seats.{none-tags}
 
 module _ (l : Ledger) (words out : List ℕ) where
-  abbrev b-next : ℕ
-  b-next = l .cursor .next .0
-
   refused-hands : (k : ℕ) → Fails (checks 16 (bookOf l words) (handOut (length out))) (suc k) → Hands l words out (record { answer = Refused (suc k); ledger = l }) words out
   unfolding numberOf handOutOf answer laid
   refused-hands k f =
@@ -69,3 +68,17 @@ module _ (l : Ledger) (words out : List ℕ) where
             answer-is = rw (e, total);
             out-is = rw e (o ∙ ap (λ y. laid (tagsOf 16 (l .cursor .next .0) y) out) all);
           }
+
+    -- where nothing held is of the slot, nothing is written and nothing moves
+    pub hand-none : not t ≡ false → length words ≡ 1024 → (n : ℕ) → n ≡ min (l .cursor .held) 1024 → (from : ℕ) → NoneOf (l .cursor .next .0) (heldIn from words) → from ≡ n → (c : Cursor) → c ≡ advancedOf (l .cursor) n
+        → Hands l words out (record { answer = Written 0; ledger = record { cursor = c; seats = l .seats } }) words out
+    unfolding laid
+    hand-none q room n m from passed e c ic =
+        let k = l .cursor .next .0 in
+        let none : NoneOf k (heldIn n words) = rw e at passed in
+        let nothing-of : (i : ℕ) → 0 ≡ length (tagsOf i k (heldIn n words)) = λ i. sym (ap length (none-tags i k (heldIn n words) none)) in
+        let s : Starts = record { at = replicate 16 0; total = 0 } in
+        let g : Starting k (heldIn n words) s = record { seats = length-replicate {A = ℕ} 16 0; at-is = λ i h. getD-replicate 16 i 0 0 h ∙ nothing-of i; total-is = nothing-of 16 } in
+        let same : laid (tagsOf 16 k (heldIn n words)) out ≡ out = rw (none-tags 16 k (heldIn n words) none) in
+        let stays = compacting-out (λ w. eqb (w .slot) (l .cursor .next .0)) words n words n (compacting-none (λ w. eqb (w .slot) (l .cursor .next .0)) words n (omega arith) none) in
+        hand-done q room n m s g (omega arith) out (sym same) n words stays c ic

@@ -184,10 +184,6 @@ module _ (n : ℕ) (b : Book) (h : Kept n b) where
   unfolding Kept
   kept-held = h .holding
 
-  pub kept-outside : (s : ℕ) → (In n s → ⊥) → b .rows s ≡ unknown
-  unfolding Kept
-  kept-outside = h .outside
-
   -- an end is never both above the open slot and below the next slot: 18 and 19 never together
   pub never-both : (s f o e : ℕ) → b .rows s ≡ joined f o → o < e → e < b .next → ⊥
   never-both s f o e q u v = let g = kept-open s f o q in omega arith

@@ -2,8 +2,7 @@
 use mathlib.Core.Path.{_≡_, refl}
 use Prim.Native.Nat.{ℕ}
 use mathlib.Core.List.{List, [], _∷_}
-use Rattle.published.specs.Rounds.{Check, needs}
-use Rattle.published.proofs.Checks.{Fails, here, later, OneOf, first, further}
+use Rattle.published.proofs.Checks.{OneOf, first, further, numbers, fails-among}
 use Rattle.ledger.specs.Book.{Book, Step, join, sweep, close, end, handOut, answer, checks, step}
 use Rattle.ledger.proofs.Outcomes.{step-ind, after-done}
 
@@ -14,15 +13,6 @@ refusals (sweep s t) = 1 ∷ 15 ∷ 17 ∷ 25 ∷ []
 refusals (close s) = 1 ∷ 15 ∷ 17 ∷ []
 refusals (end s e) = 1 ∷ 15 ∷ 16 ∷ 18 ∷ 19 ∷ []
 refusals (handOut room) = 17 ∷ 24 ∷ 22 ∷ []
-
-numbers : List Check → List ℕ
-numbers [] = []
-numbers (needs k c ∷ l) = k ∷ numbers l
-
-fails-among : (l : List Check) (k : ℕ) → Fails l k → OneOf k (numbers l)
-unfolding numbers
-fails-among l k (here j c m e) = first (numbers m)
-fails-among l k (later j c m i e f) = further j (numbers m) (fails-among m i f)
 
 numbers-are : (n : ℕ) (b : Book) (s : Step) → numbers (checks n b s) ≡ refusals s
 unfolding numbers checks refusals

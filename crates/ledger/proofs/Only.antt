@@ -1,7 +1,7 @@
 -- Laws of `only`, what a test leaves of a list. Assumes nothing.
-use mathlib.Core.Path.{_≡_, refl, ap, _∙_}
-use Prim.Native.Nat.{_+_, _≤_}
-use mathlib.Core.Bool.{Bool, true, false, _&&_}
+use mathlib.Core.Path.{_≡_, refl, ap, sym, _∙_}
+use Prim.Native.Nat.{_≤_}
+use mathlib.Core.Bool.{Bool, true, false, not, false≢true}
 use mathlib.Core.List.{List, [], _∷_, _++_, map, append-nil}
 use native.Mathlib.Omega.{arith}
 use lib.ListN.{length}
@@ -41,13 +41,21 @@ unfolding only
 only-length p [] = omega arith
 only-length p (x ∷ l) = let ih = only-length p l in split (p x) (λ e. rw e (omega arith)) (λ e. rw e (omega arith))
 
--- a second test
-pub only-only : {A : Type 0} (p q : A → Bool) (l : List A) → only p (only q l) ≡ only (λ x. q x && p x) l
+-- where a test leaves nothing, a narrower one does not either
+pub only-narrow : {A : Type 0} (p q : A → Bool) → ((x : A) → q x ≡ true → p x ≡ true) → (l : List A) → only p l ≡ [] → only q l ≡ []
 unfolding only
-only-only p q [] = refl
-only-only p q (x ∷ l) =
-    let ih = only-only p q l in
-    split (q x) (λ e. split (p x) (λ d. rw (e, d) (ap (λ k. x ∷ k) ih)) (λ d. rw (e, d) ih)) (λ e. rw e ih)
+only-narrow p q f [] e = refl
+only-narrow p q f (x ∷ l) e = split (p x)
+    (λ y. absurd (omega (arith, ap length (sym (only-yes p x l y) ∙ e))))
+    (λ n. only-no q x l (split (q x) (λ t. absurd (false≢true (sym n ∙ f x t))) (λ t. t)) ∙ only-narrow p q f l (sym (only-no p x l n) ∙ e))
+
+-- and its negation leaves all
+pub only-rest : {A : Type 0} (p : A → Bool) (l : List A) → only p l ≡ [] → only (λ x. not (p x)) l ≡ l
+unfolding only
+only-rest p [] e = refl
+only-rest p (x ∷ l) e = split (p x)
+    (λ y. absurd (omega (arith, ap length (sym (only-yes p x l y) ∙ e))))
+    (λ n. rw n (ap (λ k. x ∷ k) (only-rest p l (sym (only-no p x l n) ∙ e))))
 
 -- ---- a fact of each element
 

@@ -5,20 +5,17 @@ use Prim.Native.Nat.{ℕ, suc, _≤_, _<_}
 use mathlib.Core.Bool.{Bool, true, false, not, _&&_}
 use mathlib.Core.List.{List, [], _∷_}
 use lib.ListN.{length}
-use lib.Dec.{leb, eqb}
+use lib.Dec.{eqb}
 use borrow.Author.Tests.{leb-true, ltb-true, not-true}
-use Rattle.published.specs.Rounds.{Check, needs, isBench}
+use Rattle.published.specs.Rounds.{Check, needs}
 use Rattle.published.proofs.Tests.{both, clash}
 use Rattle.published.proofs.Checks.{Holds, also, Fails, here, later}
 use Rattle.published.proofs.Worlds.{In}
+use Rattle.published.proofs.Moves.{bench-in}
 use Rattle.ledger.specs.Book.{Row, unknown, joined, ended, hasJoined, isOpen, firstSlot, openSlot, mayGo, tagsOf, Book, withRow, swept, cut, advanced, Step, join, sweep, close, end, handOut, Answer, answer, checks, after, step}
 use Rattle.ledger.proofs.Judging.{Verdict, against, for, verdict}
 
 -- ---- what the checks say
-
-pub bench-in : (n s : ℕ) → isBench n s ≡ true → In n s
-unfolding isBench
-bench-in n s e = let h = both (leb 1 s) (leb s n) e in (leb-true 1 s (h .0), leb-true s n (h .1))
 
 pub unknown-is : (r : Row) → not (hasJoined r) ≡ true → r ≡ unknown
 unfolding hasJoined

@@ -1,10 +1,10 @@
 -- Laws of `rowsOf`: a sender's row is that of its seat, a seat set anew is a row put anew, and nobody sits outside 1 to 16. Assumes nothing.
 use mathlib.Core.Path.{_≡_, refl, ap, sym, _∙_, fun-ext}
-use Prim.Native.Nat.{ℕ, zero, suc, _-_, _≤_}
+use Prim.Native.Nat.{ℕ, zero, suc, _≤_, _<_}
 use mathlib.Core.Bool.{true, false, false≢true}
 use mathlib.Core.List.{List}
 use native.Mathlib.Omega.{arith}
-use lib.ListN.{length, getD, set, List·getD-eq-default, length-replicate, replicate, getD-replicate}
+use lib.ListN.{length, set, List·getD-eq-default, length-replicate, replicate, getD-replicate}
 use lib.Seq.{getD-set-same, getD-set-other}
 use lib.Dec.{leb}
 use borrow.Author.Tests.{leb-true, leb-false, le-leb}
@@ -28,20 +28,19 @@ range-bench s a b = rw (le-leb 1 s a, le-leb s 16 b)
 abbrev pub nobody : Seat
 nobody = record { row = Unknown }
 
-pub rows-at : (seats : List Seat) (s : ℕ) → 1 ≤ s → rowsOf seats s ≡ rowIs (getD seats (s - 1) nobody .row)
+rows-other : (seats : List Seat) (i : ℕ) (x : Seat) (s : ℕ) → (s ≡ suc i → ⊥) → rowsOf (set seats i x) s ≡ rowsOf seats s
 unfolding rowsOf
-rows-at seats zero h = absurd (omega arith)
-rows-at seats (suc i) h = let e : suc i - 1 ≡ i = omega arith in rw e
+rows-other seats i x zero ne = refl
+rows-other seats i x (suc j) ne = ap (λ (y : Seat). rowIs (y .row)) (getD-set-other seats i j x nobody (omega arith))
 
-rows-other : (seats : List Seat) (s : ℕ) (x : Seat) (i : ℕ) → 1 ≤ s → (i ≡ s → ⊥) → rowsOf (set seats (s - 1) x) i ≡ rowsOf seats i
+rows-same : (seats : List Seat) (i : ℕ) (x : Seat) → i < length seats → rowsOf (set seats i x) (suc i) ≡ rowIs (x .row)
 unfolding rowsOf
-rows-other seats s x zero h ne = refl
-rows-other seats s x (suc i) h ne = ap (λ (y : Seat). rowIs (y .row)) (getD-set-other seats (s - 1) i x nobody (omega arith))
+rows-same seats i x h = ap (λ (y : Seat). rowIs (y .row)) (getD-set-same seats i x nobody h)
 
-pub rows-set : (seats : List Seat) (s : ℕ) (x : Seat) → 1 ≤ s → s ≤ length seats → rowsOf (set seats (s - 1) x) ≡ put (rowsOf seats) s (rowIs (x .row))
-rows-set seats s x h k = fun-ext λ i. put-ind (λ z. rowsOf (set seats (s - 1) x) i ≡ z) (rowsOf seats) s (rowIs (x .row)) i
-    (λ e. rw e (rows-at (set seats (s - 1) x) s h ∙ ap (λ (y : Seat). rowIs (y .row)) (getD-set-same seats (s - 1) x nobody (omega arith))))
-    (λ ne. rows-other seats s x i h ne)
+pub rows-set : (seats : List Seat) (i : ℕ) (x : Seat) → i < length seats → rowsOf (set seats i x) ≡ put (rowsOf seats) (suc i) (rowIs (x .row))
+rows-set seats i x h = fun-ext λ s. put-ind (λ z. rowsOf (set seats i x) s ≡ z) (rowsOf seats) (suc i) (rowIs (x .row)) s
+    (λ e. rw e (rows-same seats i x h))
+    (λ ne. rows-other seats i x s ne)
 
 -- of a number that is no sender's nothing is known
 pub rows-outside : (seats : List Seat) (s : ℕ) → length seats ≡ 16 → isBench 16 s ≡ false → rowsOf seats s ≡ book.unknown

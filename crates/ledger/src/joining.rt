@@ -1,16 +1,17 @@
 // A new ledger, what it knows of a sender, and the steps that change no sweeps: join and close.
+// Each step finds its number first, from the sender's row. The ledger then leaves it in one way only, done or refused, which spares copies.
 ghost use mathlib.Core.Path.{_≡_};
 ghost use mathlib.Core.List.{List};
-ghost use Prim.Native.Nat.{ℕ};
-ghost use Rattle.ledger.specs.Book.{join, close};
+ghost use Prim.Native.Nat.{ℕ, _≤_};
+ghost use Rattle.ledger.specs.Book.{Book, join, close, step, openSlot};
 ghost use Rattle.ledger.specs.Seen.{rowIs, rowsOf};
 ghost use Rattle.ledger.specs.Promises.{Tells, Begins};
+ghost use Rattle.ledger.specs.Words.{Knows};
 use crate::Cursor;
 use crate::Ledger;
 use crate::Row;
 use crate::Seat;
 use crate::Told;
-use crate::answers;
 use crate::rows;
 use kinds::BenchNo;
 use kinds::SlotNo;
@@ -36,58 +37,84 @@ pub fn row_of(ledger: Ledger, sender: BenchNo) -> Row
     if !rows::is_sender(sender) {
         return Row::Unknown;
     }
-    rows::seat_of(ledger, sender)
+    let i = rows::place_of(sender);
+    rows::row_at(ledger, i)
 }
 
 // The sender's open slot is `first` from now on. The cursor, and so what is held, stays.
 pub fn join(ledger: Ledger, sender: BenchNo, first: SlotNo) -> Told
     ensures { λ r. ⌜ ((words : List ℕ) → Tells ledger words (join (sender .0) (first .0)) r words) ⌝ }
 {
-    if !rows::is_sender(sender) {
-        return answers::refused(ledger, 1);
-    }
-    let row = rows::seat_of(ledger, sender);
-    if rows::has_joined(row) {
-        return answers::refused(ledger, 13);
-    }
-    if first.0 < ledger.cursor.next.0 {
-        return answers::refused(ledger, 14);
-    }
-    if 65534 < first.0 {
-        return answers::refused(ledger, 14);
-    }
-    answers::done(rows::with_row(
-        ledger,
-        sender,
-        Row::Joined {
+    let mut after = ledger;
+    let i = rows::place_of(sender);
+    let seat = after.seats[i];
+    let known = seat.row;
+    let next = after.cursor.next;
+    let number = join_number(sender, known, next, first);
+    if number == 0 {
+        let row = Row::Joined {
             first: first,
             open: first,
-        },
-    ))
+        };
+        after.seats[i] = Seat { row: row };
+    }
+    Told {
+        number: number,
+        ledger: after,
+    }
+}
+
+// The answer to a join by what is known of the sender.
+fn join_number(sender: BenchNo, row: Row, next: SlotNo, first: SlotNo) -> u32
+    ensures { λ r. ⌜ ((b : Book) → b .next ≡ next .0 → Knows b (sender .0) (rowIs row) → r ≡ step 16 b (join (sender .0) (first .0)) .number) ⌝ }
+{
+    if !rows::is_sender(sender) {
+        return 1;
+    }
+    if rows::has_joined(row) {
+        return 13;
+    }
+    if first.0 < next.0 {
+        return 14;
+    }
+    if 65534 < first.0 {
+        return 14;
+    }
+    0
 }
 
 // The sender's open slot is complete, and the next one opens. The cursor stays.
 pub fn close(ledger: Ledger, sender: BenchNo) -> Told
     ensures { λ r. ⌜ ((words : List ℕ) → Tells ledger words (close (sender .0)) r words) ⌝ }
 {
-    if !rows::is_sender(sender) {
-        return answers::refused(ledger, 1);
+    let mut after = ledger;
+    let i = rows::place_of(sender);
+    let seat = after.seats[i];
+    let known = seat.row;
+    let number = close_number(sender, known);
+    if number == 0 {
+        let row = rows::closed(known);
+        after.seats[i] = Seat { row: row };
     }
-    let row = rows::seat_of(ledger, sender);
+    Told {
+        number: number,
+        ledger: after,
+    }
+}
+
+// The answer to a close by what is known of the sender.
+fn close_number(sender: BenchNo, row: Row) -> u32
+    ensures { λ r. ⌜ ((b : Book) → Knows b (sender .0) (rowIs row) → r ≡ step 16 b (close (sender .0)) .number) × (r ≡ 0 → openSlot (rowIs row) ≤ 65534) ⌝ }
+{
+    if !rows::is_sender(sender) {
+        return 1;
+    }
     if !rows::is_open(row) {
-        return answers::refused(ledger, 15);
+        return 15;
     }
     let open = rows::open_slot(row);
     if 65534 < open.0 {
-        return answers::refused(ledger, 17);
+        return 17;
     }
-    let first = rows::first_slot(row);
-    answers::done(rows::with_row(
-        ledger,
-        sender,
-        Row::Joined {
-            first: first,
-            open: SlotNo(open.0 + 1),
-        },
-    ))
+    0
 }

@@ -5,7 +5,6 @@ use kinds::SlotNo;
 mod joining; // joining.rt: a new ledger, join and close
 mod sweeping; // sweeping.rt: sweep and end
 mod handing; // handing.rt: hand out
-mod answers; // answers.rt: refused and done
 mod rows; // rows.rt: the senders' rows
 mod words; // words.rt: the words of the room
 mod order; // order.rt: the tags of a slot in the order of hand-out

@@ -1,14 +1,13 @@
-// The senders' rows: what a row says, and the ledger with another row. Senders are 1 to 16.
+// The senders' rows: where they are, what a row says, and the row after a step. Senders are 1 to 16.
 ghost use mathlib.Core.Path.{_≡_};
 ghost use mathlib.Core.Bool.{true, not, _||_};
-ghost use Prim.Native.Nat.{ℕ};
+ghost use Prim.Native.Nat.{suc, _≤_, _<_};
 ghost use lib.Dec.{ltb};
-ghost use Rattle.published.specs.Rounds.{isBench, put};
-ghost use Rattle.ledger.specs.Book.{hasJoined, isOpen, firstSlot, openSlot, isMember, mayGo};
+ghost use Rattle.published.specs.Rounds.{isBench};
+ghost use Rattle.ledger.specs.Book.{joined, ended, hasJoined, isOpen, firstSlot, openSlot, isMember, mayGo};
 ghost use Rattle.ledger.specs.Seen.{rowIs, rowsOf};
 use crate::Ledger;
 use crate::Row;
-use crate::Seat;
 use kinds::BenchNo;
 use kinds::SlotNo;
 
@@ -21,24 +20,48 @@ pub(crate) fn is_sender(sender: BenchNo) -> bool
     sender.0 <= 16
 }
 
-pub(crate) fn seat_of(ledger: Ledger, sender: BenchNo) -> Row
-    requires { ⌜ isBench 16 (sender .0) ≡ true ⌝ }
-    ensures { λ r. ⌜ rowIs r ≡ rowsOf (ledger .seats) (sender .0) ⌝ }
+// Where a sender's seat is; of a number outside 1 to 16, the first seat.
+pub(crate) fn place_of(sender: BenchNo) -> usize
+    ensures { λ r. ⌜ (r < 16) × (isBench 16 (sender .0) ≡ true → suc r ≡ sender .0) ⌝ }
 {
-    let i = (sender.0 - 1) as usize;
+    if !is_sender(sender) {
+        return 0;
+    }
+    (sender.0 - 1) as usize
+}
+
+pub(crate) fn row_at(ledger: Ledger, i: usize) -> Row
+    requires { ⌜ i < 16 ⌝ }
+    ensures { λ r. ⌜ rowIs r ≡ rowsOf (ledger .seats) (suc i) ⌝ }
+{
     let seat = ledger.seats[i];
     seat.row
 }
 
-// The ledger with another row for a sender. Other rows and the cursor stay.
-pub(crate) fn with_row(ledger: Ledger, sender: BenchNo, row: Row) -> Ledger
-    requires { ⌜ isBench 16 (sender .0) ≡ true ⌝ }
-    ensures { λ r. ⌜ (r .cursor ≡ ledger .cursor) × (rowsOf (r .seats) ≡ put (rowsOf (ledger .seats)) (sender .0) (rowIs row)) ⌝ }
+// The row after a close: the next slot is open.
+pub(crate) fn closed(row: Row) -> Row
+    requires { ⌜ openSlot (rowIs row) ≤ 65534 ⌝ }
+    ensures { λ r. ⌜ rowIs r ≡ joined (firstSlot (rowIs row)) (suc (openSlot (rowIs row))) ⌝ }
 {
-    let i = (sender.0 - 1) as usize;
-    let mut after = ledger;
-    after.seats[i] = Seat { row: row };
-    after
+    let first = first_slot(row);
+    let open = open_slot(row);
+    Row::Joined {
+        first: first,
+        open: SlotNo(open.0 + 1),
+    }
+}
+
+// The row after an end at `slot`.
+pub(crate) fn ended(row: Row, slot: SlotNo) -> Row
+    ensures { λ r. ⌜ rowIs r ≡ ended (firstSlot (rowIs row)) (openSlot (rowIs row)) (slot .0) ⌝ }
+{
+    let first = first_slot(row);
+    let open = open_slot(row);
+    Row::Ended {
+        first: first,
+        open: open,
+        end: slot,
+    }
 }
 
 pub(crate) fn has_joined(row: Row) -> bool

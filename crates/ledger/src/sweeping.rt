@@ -1,16 +1,16 @@
 // The steps that change what is held, but for a hand-out: sweep and end. Each works on the room as a slice, whose length is known there.
 ghost use mathlib.Core.Path.{_≡_};
-ghost use mathlib.Core.Bool.{true};
+ghost use Prim.Native.Nat.{ℕ, _≤_, _<_};
 ghost use lib.ListN.{length};
-ghost use Rattle.published.specs.Rounds.{isBench};
-ghost use Rattle.ledger.specs.Book.{sweep, end};
-ghost use Rattle.ledger.specs.Seen.{bookOf, rowIs};
+ghost use lib.Dec.{ltb};
+ghost use Rattle.ledger.specs.Book.{Book, sweep, end, step, openSlot};
+ghost use Rattle.ledger.specs.Seen.{rowIs};
 ghost use Rattle.ledger.specs.Promises.{Tells};
-ghost use Rattle.ledger.specs.Words.{Becomes, endedOf};
+ghost use Rattle.ledger.specs.Words.{Knows};
 use crate::Ledger;
 use crate::Row;
+use crate::Seat;
 use crate::Told;
-use crate::answers;
 use crate::rows;
 use crate::words;
 use kinds::BenchNo;
@@ -27,23 +27,41 @@ fn sweep_in(ledger: Ledger, room: &mut [u64], sender: BenchNo, tag: u32) -> Told
     requires { ⌜ length (now room) ≡ 1024 ⌝ }
     ensures { λ r. ⌜ Tells ledger (now (room .entry)) (sweep (sender .0) tag) r (now (room .exit)) ⌝ }
 {
-    if !rows::is_sender(sender) {
-        return answers::refused(ledger, 1);
+    let i = rows::place_of(sender);
+    let row = rows::row_at(ledger, i);
+    let held = ledger.cursor.held;
+    let number = sweep_number(sender, row, held);
+    let mut after = ledger;
+    if number == 0 {
+        let open = rows::open_slot(row);
+        room[held] = words::word(sender, open, tag);
+        let more = held + 1;
+        after.cursor.held = more;
     }
-    let row = rows::seat_of(ledger, sender);
+    Told {
+        number: number,
+        ledger: after,
+    }
+}
+
+// The answer to a sweep by what is known of the sender and how many are held.
+fn sweep_number(sender: BenchNo, row: Row, held: usize) -> u32
+    ensures { λ r. ⌜ ((b : Book) (tag : ℕ) → Knows b (sender .0) (rowIs row) → ltb (length (b .held)) 1024 ≡ ltb held 1024 → r ≡ step 16 b (sweep (sender .0) tag) .number) × (r ≡ 0 → (sender .0 ≤ 16) × (openSlot (rowIs row) ≤ 65534) × (held < 1024)) ⌝ }
+{
+    if !rows::is_sender(sender) {
+        return 1;
+    }
     if !rows::is_open(row) {
-        return answers::refused(ledger, 15);
+        return 15;
     }
     let open = rows::open_slot(row);
     if 65534 < open.0 {
-        return answers::refused(ledger, 17);
+        return 17;
     }
-    let held = ledger.cursor.held;
     if 1024 <= held {
-        return answers::refused(ledger, 25);
+        return 25;
     }
-    room[held] = words::word(sender, open, tag);
-    answers::done(answers::holding(ledger, held + 1))
+    0
 }
 
 // The sender counts in no slot from `slot` on, and its sweeps held for such slots are dropped: their words are used again.
@@ -57,43 +75,44 @@ fn end_in(ledger: Ledger, room: &mut [u64], sender: BenchNo, slot: SlotNo) -> To
     requires { ⌜ length (now room) ≡ 1024 ⌝ }
     ensures { λ r. ⌜ Tells ledger (now (room .entry)) (end (sender .0) (slot .0)) r (now (room .exit)) ⌝ }
 {
-    if !rows::is_sender(sender) {
-        return answers::refused(ledger, 1);
+    let mut after = ledger;
+    let i = rows::place_of(sender);
+    let seat = after.seats[i];
+    let known = seat.row;
+    let next = after.cursor.next;
+    let number = end_number(sender, known, next, slot);
+    if number == 0 {
+        let held = words::lesser(after.cursor.held, 1024);
+        let left = words::take_out(room, 0, held, words::Part::From(sender, slot));
+        let row = rows::ended(known, slot);
+        after.seats[i] = Seat { row: row };
+        after.cursor.held = left;
     }
-    let row = rows::seat_of(ledger, sender);
+    Told {
+        number: number,
+        ledger: after,
+    }
+}
+
+// The answer to an end by what is known of the sender.
+fn end_number(sender: BenchNo, row: Row, next: SlotNo, slot: SlotNo) -> u32
+    ensures { λ r. ⌜ ((b : Book) → b .next ≡ next .0 → Knows b (sender .0) (rowIs row) → r ≡ step 16 b (end (sender .0) (slot .0)) .number) ⌝ }
+{
+    if !rows::is_sender(sender) {
+        return 1;
+    }
     if !rows::has_joined(row) {
-        return answers::refused(ledger, 15);
+        return 15;
     }
     if !rows::is_open(row) {
-        return answers::refused(ledger, 16);
+        return 16;
     }
     let open = rows::open_slot(row);
     if open.0 < slot.0 {
-        return answers::refused(ledger, 18);
+        return 18;
     }
-    if slot.0 < ledger.cursor.next.0 {
-        return answers::refused(ledger, 19);
+    if slot.0 < next.0 {
+        return 19;
     }
-    answers::done(ended_in(ledger, room, sender, row, slot))
-}
-
-// The ledger with its sender's row ended at `slot`, and without its sweeps held from that slot on.
-fn ended_in(ledger: Ledger, room: &mut [u64], sender: BenchNo, row: Row, slot: SlotNo) -> Ledger
-    requires { ⌜ (length (now room) ≡ 1024) × (isBench 16 (sender .0) ≡ true) ⌝ }
-    ensures { λ r. ⌜ Becomes (endedOf (sender .0) (rowIs row) (slot .0) (bookOf ledger (now (room .entry)))) (now (room .entry)) r (now (room .exit)) ⌝ }
-{
-    let held = words::lesser(ledger.cursor.held, 1024);
-    let left = words::take_out(room, held, words::Part::From(sender, slot));
-    let first = rows::first_slot(row);
-    let open = rows::open_slot(row);
-    let after = rows::with_row(
-        ledger,
-        sender,
-        Row::Ended {
-            first: first,
-            open: open,
-            end: slot,
-        },
-    );
-    answers::holding(after, left)
+    0
 }

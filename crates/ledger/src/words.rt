@@ -1,9 +1,12 @@
 // The room for sweeps: 1,024 words, of which the first ones hold a sweep each, in order of arrival.
 ghost use mathlib.Core.Path.{_≡_};
+ghost use mathlib.Core.List.{[]};
 ghost use Prim.Native.Nat.{_≤_, min};
 ghost use lib.ListN.{length};
-ghost use Rattle.ledger.specs.Seen.{sweepIs};
-ghost use Rattle.ledger.specs.Words.{within, TakesOut};
+ghost use lib.Dec.{eqb};
+ghost use Rattle.ledger.specs.Book.{only};
+ghost use Rattle.ledger.specs.Seen.{sweepIs, heldIn};
+ghost use Rattle.ledger.specs.Words.{within, NoneOf, TakesOut};
 use kinds::BenchNo;
 use kinds::SlotNo;
 
@@ -27,7 +30,7 @@ pub(crate) fn sender_of(w: u64) -> u64
     w / 281474976710656
 }
 
-pub(crate) fn slot_of(w: u64) -> u64
+fn slot_of(w: u64) -> u64
     ensures { λ r. ⌜ r ≡ sweepIs w .slot ⌝ }
 {
     w / 4294967296 % 65536
@@ -39,11 +42,17 @@ pub(crate) fn tag_of(w: u64) -> u32
     (w % 4294967296) as u32
 }
 
+pub(crate) fn is_of(w: u64, slot: SlotNo) -> bool
+    ensures { λ r. ⌜ r ≡ eqb (sweepIs w .slot) (slot .0) ⌝ }
+{
+    slot_of(w) == slot.0 as u64
+}
+
 fn is_in(w: u64, part: Part) -> bool
     ensures { λ r. ⌜ r ≡ within part (sweepIs w) ⌝ }
 {
     match part {
-        Part::Of(slot) => slot_of(w) == slot.0 as u64,
+        Part::Of(slot) => is_of(w, slot),
         Part::From(sender, slot) => {
             if sender_of(w) != sender.0 as u64 {
                 return false;
@@ -53,13 +62,38 @@ fn is_in(w: u64, part: Part) -> bool
     }
 }
 
-// Takes a part out of the first `held` words: what is left moves to the front, in order, and the words past it stay. How many are left.
-pub(crate) fn take_out(room: &mut [u64], held: usize, part: Part) -> usize
-    requires { ⌜ held ≤ length (now room) ⌝ }
+// A place among the first `held` words before which none is of the slot: words are passed by fours, as far as four have none of it.
+pub(crate) fn skipped(room: &[u64], held: usize, slot: SlotNo) -> usize
+    requires { ⌜ (held ≤ length (now room)) × (held ≤ 1024) ⌝ }
+    ensures { λ r. ⌜ (r ≤ held) × NoneOf (slot .0) (heldIn r (now (room .entry))) ⌝ }
+{
+    let mut i: usize = 0;
+    while i + 4 <= held {
+        if is_of(room[i], slot) {
+            return i;
+        }
+        if is_of(room[i + 1], slot) {
+            return i;
+        }
+        if is_of(room[i + 2], slot) {
+            return i;
+        }
+        if is_of(room[i + 3], slot) {
+            return i;
+        }
+        i += 4;
+    }
+    i
+}
+
+// Takes a part out of the first `held` words, of which none before `from` is of it: what is left moves to the front, in order, and the
+// words past it stay. How many are left.
+pub(crate) fn take_out(room: &mut [u64], from: usize, held: usize, part: Part) -> usize
+    requires { ⌜ (from ≤ held) × (held ≤ length (now room)) × (only (within part) (heldIn from (now room)) ≡ []) ⌝ }
     ensures { λ r. ⌜ TakesOut (within part) held (now (room .entry)) r (now (room .exit)) ⌝ }
 {
-    let mut k: usize = 0;
-    let mut i: usize = 0;
+    let mut k = from;
+    let mut i = from;
     while i < held {
         let w = room[i];
         if !is_in(w, part) {

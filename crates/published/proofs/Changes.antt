@@ -1,22 +1,21 @@
 -- One bench changes and sends `extra`: what was sent stays sent, and the invariant holds after if it holds of the new messages.
 -- `base-step` is the one place where the whole invariant is shown to be kept. Assumes nothing.
-use mathlib.Core.Path.{_≡_, refl, sym, ap, _∙_}
+use mathlib.Core.Path.{_≡_, refl, ap, _∙_}
 use Prim.Native.Nat.{ℕ, suc}
-use mathlib.Core.Bool.{Bool, true, false}
+use mathlib.Core.Bool.{true, false}
 use mathlib.Core.List.{List, [], _++_, append-nil}
-use Rattle.published.specs.Rounds.{Run, Bench, Message, Found, absent, found, running, failed, member, put, find, hasOut, decides, settled}
+use Rattle.published.specs.Rounds.{Run, Bench, Message, absent, found, running, failed, member, put, find, hasOut, decides, settled}
 use Rattle.published.proofs.Updates.{put-ind}
 use Rattle.published.proofs.Worlds.{In}
-use Rattle.published.proofs.Messages.{find-found, find-absent, Pre, pre-more}
-use Rattle.published.proofs.Moves.{Up, live}
-use Rattle.published.proofs.Invariant.{M, Mute, WfB, Stays, stays, mute, dead, Heard, Origin, Came, Base}
+use Rattle.published.proofs.Messages.{find-append, find-found, Pre, pre-more}
+use Rattle.published.proofs.Moves.{Up}
+use Rattle.published.proofs.Invariant.{M, Mute, WfB, stays, mute, dead, Came, Base}
 
 -- bench b becomes x and sends `extra`
 pub record Change (s : Run) (b : ℕ) (x : Bench) (extra : List Message) : Type 0 where
   pub wf : WfB x
   pub sent-is : x .sent ≡ s b .sent ++ extra
   pub silent : hasOut (s b .sent) ≡ true → extra ≡ []
-  pub live-back : live (x .state) ≡ true → live (s b .state) ≡ true
   pub alive : Up (s b .state)
   pub lines : (f : ℕ) → Pre (x .taken f) (s f .sent)
   pub gone : (f : ℕ) → x .noticed f ≡ true → s f .state ≡ failed
@@ -37,7 +36,7 @@ pub record News (n : ℕ) (s : Run) (b : ℕ) (x : Bench) (r v w : ℕ) : Type 0
   pub new-came : (q : ℕ) → r ≡ suc (suc q) → Came n s b q v w
 
 -- a message after the change: an old one, or a new one of bench b
-pub data OldNew (s : Run) (b : ℕ) (q : List Message) (f r v w : ℕ) : Type 0 where
+data OldNew (s : Run) (b : ℕ) (q : List Message) (f r v w : ℕ) : Type 0 where
   old : M s f r v w → OldNew s b q f r v w
   new : f ≡ b → find r q ≡ found v w → OldNew s b q f r v w
 
@@ -61,17 +60,13 @@ module _ (s : Run) (b : ℕ) (x : Bench) (extra : List Message) (c : Change s b 
       (λ e. rw (c .sent-is) (pre-more (s b .sent) p extra (rw e at h)))
       (λ e. h)
 
-  pub failed-mono : (f : ℕ) → s f .state ≡ failed → put s b x f .state ≡ failed
+  failed-mono : (f : ℕ) → s f .state ≡ failed → put s b x f .state ≡ failed
   failed-mono f h = put-ind (λ y. y .state ≡ failed) s b x f (λ e. absurd (c .alive (rw e at h))) (λ e. h)
 
-  pub old-new : (f r v w : ℕ) → M (put s b x) f r v w → OldNew s b extra f r v w
+  old-new : (f r v w : ℕ) → M (put s b x) f r v w → OldNew s b extra f r v w
   old-new f r v w = put-ind (λ y. find r (y .sent) ≡ found v w → OldNew s b extra f r v w) s b x f
-      (λ e h. go e (find r (s b .sent)) refl (rw (c .sent-is) at h))
+      (λ e h. find-append r (s b .sent) extra v w (rw (c .sent-is) at h) (λ z. old (rw e z)) (λ z. new e z))
       (λ e h. old h)
-    where
-      go : f ≡ b → (k : Found) → find r (s b .sent) ≡ k → find r (s b .sent ++ extra) ≡ found v w → OldNew s b extra f r v w
-      go e absent q h = new e (sym (find-absent r (s b .sent) extra q) ∙ h)
-      go e (found u y) q h = old (rw e (q ∙ sym (find-found r (s b .sent) extra u y q) ∙ h))
 
   came-mono : (n i r v w : ℕ) → Came n s i r v w → Came n (put s b x) i r v w
   came-mono n i r v w h = record {

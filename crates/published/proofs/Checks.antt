@@ -50,11 +50,11 @@ pub data OneOf (k : ℕ) : List ℕ → Type 0 where
   first : (l : List ℕ) → OneOf k (k ∷ l)
   further : (j : ℕ) (l : List ℕ) → OneOf k l → OneOf k (j ∷ l)
 
-numbers : List Check → List ℕ
+unfoldable pub numbers : List Check → List ℕ
 numbers [] = []
 numbers (needs k c ∷ l) = k ∷ numbers l
 
-fails-among : (l : List Check) (k : ℕ) → Fails l k → OneOf k (numbers l)
+pub fails-among : (l : List Check) (k : ℕ) → Fails l k → OneOf k (numbers l)
 unfolding numbers
 fails-among l k (here j c m e) = first (numbers m)
 fails-among l k (later j c m i e f) = further j (numbers m) (fails-among m i f)

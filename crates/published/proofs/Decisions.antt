@@ -2,18 +2,18 @@
 -- then say the same (A.11), and a running bench stands in every world, so it cannot decide otherwise. Every move keeps this. Assumes nothing.
 use mathlib.Core.Path.{_≡_, refl, sym, _∙_}
 use Prim.Native.Nat.{ℕ, zero, suc, _≤_}
-use mathlib.Core.Bool.{Bool, true, false}
+use mathlib.Core.Bool.{true}
 use native.Mathlib.Omega.{arith}
 use lib.Dec.{eqb}
 use borrow.Author.Tests.{eqb-true, eqb-false}
-use Rattle.published.specs.Rounds.{Run, Bench, running, Decision, chosen, member, within, put, find, hasOut, isFresh, isRunning, got, see, agrees, decides, decidesOn, newRun, newBench, inState, inRound, sending, taking, noticing, choosing, entering, parting, deciding, advancing, Limit, Step}
+use Rattle.published.specs.Rounds.{Run, Bench, running, chosen, member, within, put, find, hasOut, got, see, agrees, decides, decidesOn, newRun, newBench, inState, inRound, sending, taking, noticing, choosing, entering, parting, deciding, advancing, Limit, Step}
 use Rattle.published.proofs.Tests.{both, split, clash}
 use Rattle.published.proofs.Updates.{put-ind}
 use Rattle.published.proofs.Worlds.{In, everyIn-get, Sub, within-get}
 use Rattle.published.proofs.Messages.{never}
 use Rattle.published.proofs.Views.{viewOf-ind}
-use Rattle.published.proofs.Moves.{live, Move, starts, abstains, leaves, leaves-silent, fails, takes, notices, concludes, advances}
-use Rattle.published.proofs.Invariant.{M, Mute, Base, running-in}
+use Rattle.published.proofs.Moves.{running-live, Move, starts, abstains, leaves, leaves-silent, fails, takes, notices, concludes, advances}
+use Rattle.published.proofs.Invariant.{M, Mute, Base, running-bench, running-in}
 use Rattle.published.proofs.Changes.{mono, mute-mono}
 use Rattle.published.proofs.NextRound.{got-found, got-mute}
 use Rattle.published.proofs.Effects.{Effect, effect, base-move, base-new}
@@ -62,15 +62,14 @@ module _ (n : ℕ) (s : Run) (h : Base n s) where
   ]
 
   -- the value of a running bench is what was decided
-  pub cert-now : (i d : ℕ) → Cert n s i d → (b : ℕ) → In n b → s b .state ≡ running → s b .value ≡ d
-  unfolding live isFresh isRunning
-  cert-now i d c b hb k =
-      let l : live (s b .state) ≡ true = cc in
-      let m = running-in n s h i b (c .r) d (c .w) hb k (c .said-it) in
+  pub cert-now : (i d : ℕ) → Cert n s i d → (b : ℕ) → s b .state ≡ running → s b .value ≡ d
+  cert-now i d c b k =
+      let hb = running-bench n s h b k in
+      let m = running-in n s h i b (c .r) d (c .w) k (c .said-it) in
       elim (c .all-agreed b hb m) [
         | said y m′ sub ↦ let p = h .wf b .upto (c .r) d y m′ in
             same-later (c .r) d (c .w) (s b .round) (cert-same i d c) (p .0) (p .1) b (s b .value) (s b .world) hb m (h .wf b .now k) .0
-        | never-will o ↦ let z = h .wf b .quiet l in let z₂ = o .has-out in cc
+        | never-will o ↦ let z = h .wf b .quiet (running-live k) in let z₂ = o .has-out in cc
       ]
 
   -- what the test of a decision says
@@ -109,9 +108,9 @@ module _ (n : ℕ) (lim : Limit) (s : Run) (h : Inv n s) where
       same : (i : ℕ) → s i .decision ≡ put s b x i .decision
       same i = put-ind (λ y. s i .decision ≡ y .decision) s b x i (λ q. rw q (sym e)) (λ q. refl)
 
-  decided-now : (b : ℕ) → Effect n s b (deciding (s b)) → Base n (put s b (deciding (s b))) → In n b → s b .state ≡ running → decides n b (s b) ≡ true → Inv n (put s b (deciding (s b)))
+  decided-now : (b : ℕ) → Effect n s b (deciding (s b)) → Base n (put s b (deciding (s b))) → s b .state ≡ running → decides n b (s b) ≡ true → Inv n (put s b (deciding (s b)))
   unfolding deciding parting sending inState choosing
-  decided-now b f base′ hb k t = record {
+  decided-now b f base′ k t = record {
     base = base′;
     cert = λ i d. put-ind (λ y. y .decision ≡ chosen d → Cert n (put s b (deciding (s b))) i d) s b (deciding (s b)) i
         (λ e q. let q′ : s b .value ≡ d = cc in rw (e, ← q′) (cert-mono b (deciding (s b)) f b (s b .value) now-cert))
@@ -124,7 +123,7 @@ module _ (n : ℕ) (lim : Limit) (s : Run) (h : Inv n s) where
 
       this : (i d : ℕ) → put s b (deciding (s b)) i .decision ≡ chosen d → d ≡ s b .value
       this i d = put-ind (λ y. y .decision ≡ chosen d → d ≡ s b .value) s b (deciding (s b)) i
-          (λ e q. cc) (λ e q. sym (cert-now n s (h .base) i d (h .cert i d q) b hb k))
+          (λ e q. cc) (λ e q. sym (cert-now n s (h .base) i d (h .cert i d q) b k))
 
   by-move : (a : Step) (b : ℕ) (x : Bench) → Move n lim s a b x → Effect n s b x → Base n (put s b x) → Inv n (put s b x)
   unfolding entering parting advancing inState inRound sending taking noticing
@@ -135,7 +134,7 @@ module _ (n : ℕ) (lim : Limit) (s : Run) (h : Inv n s) where
   by-move a d x (fails b hb u) f g = keeps b _ f g refl
   by-move a d x (takes b c m q hb hf ne l z e) f g = keeps b _ f g refl
   by-move a d x (notices b c hb hf ne l e z) f g = keeps b _ f g refl
-  by-move a d x (concludes b hb k e) f g = decided-now b f g hb k e
+  by-move a d x (concludes b hb k e) f g = decided-now b f g k e
   by-move a d x (advances b hb k e t y) f g = keeps b _ f g refl
 
   pub inv-move : (a : Step) (b : ℕ) (x : Bench) → Move n lim s a b x → Inv n (put s b x)

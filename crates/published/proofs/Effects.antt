@@ -1,15 +1,15 @@
 -- Every move keeps the invariant. A start is the one move that looks at other benches: checks 6 and 7 are what keeps the worlds together. Assumes nothing.
 use mathlib.Core.Path.{_≡_, refl}
-use Prim.Native.Nat.{ℕ, zero, suc}
-use mathlib.Core.Bool.{Bool, true, false, not, _||_}
+use Prim.Native.Nat.{ℕ, zero}
+use mathlib.Core.Bool.{true, not, _||_}
 use mathlib.Core.List.{List, [], _∷_}
 use native.Mathlib.Omega.{arith}
-use Rattle.published.specs.Rounds.{Run, Bench, Message, Round, Out, absent, found, fresh, running, left, abstained, failed, member, put, find, hasOut, hasStarted, isGone, isFresh, isRunning, startedWith, hasAll, inAll, newRun, newBench, inState, inRound, sending, taking, noticing, choosing, entering, parting, deciding, advancing, Limit, Step}
+use Rattle.published.specs.Rounds.{Run, Bench, Message, Round, Out, absent, found, fresh, running, left, abstained, failed, member, put, find, hasOut, hasStarted, isGone, isFresh, isRunning, startedWith, hasAll, inAll, newRun, newBench, inState, sending, taking, noticing, entering, parting, advancing, Limit, Step}
 use Rattle.published.proofs.Tests.{clash}
 use Rattle.published.proofs.Updates.{put-ind}
 use Rattle.published.proofs.Worlds.{In, every-get}
 use Rattle.published.proofs.Messages.{never, find-one, tidy-nil}
-use Rattle.published.proofs.Moves.{live, live-up, here-up, Move, starts, abstains, leaves, leaves-silent, fails, takes, notices, concludes, advances}
+use Rattle.published.proofs.Moves.{live, fresh-live, running-live, live-up, here-up, Move, starts, abstains, leaves, leaves-silent, fails, takes, notices, concludes, advances}
 use Rattle.published.proofs.Invariant.{M, Base, began, kept}
 use Rattle.published.proofs.Changes.{Change, at-start, News, base-step}
 use Rattle.published.proofs.Sent.{change-stop, change-part, change-decide, change-take, change-notice, change-begin, change-advance}
@@ -31,11 +31,10 @@ module _ (n : ℕ) (s : Run) (h : Base n s) (b v w : ℕ) (hb : In n b) (k : s b
 
   -- nobody is past round 1: it would have awaited this bench
   none-second : {A : Type 0} (j v₂ w₂ : ℕ) → M s j 2 v₂ w₂ → A
-  unfolding live isFresh isRunning find
+  unfolding find
   none-second j v₂ w₂ m =
       let c = h .came j zero v₂ w₂ m in
-      let l : live (s b .state) ≡ true = cc in
-      let x = c .all-heard b hb (kept n s h j b 2 v₂ w₂ (c .value₀) (c .world₀) hb l (c .before) (runs-start j (c .value₀) (c .world₀) (c .before)) m) in
+      let x = c .all-heard b hb (kept n s h j b 2 v₂ w₂ (c .value₀) (c .world₀) hb (fresh-live k) (c .before) (runs-start j (c .value₀) (c .world₀) (c .before)) m) in
       let y = x .msg in let z = h .wf b .empty k in clash (cc)
 
   news-start : (r v′ w′ : ℕ) → find r (Round 1 v w ∷ []) ≡ found v′ w′ → News n s b (entering 1 v w (s b)) r v′ w′
@@ -64,21 +63,21 @@ module _ (n : ℕ) (lim : Limit) (s : Run) (h : Base n s) where
   quietly b x extra c z k = record { extra = extra; change = c; news = λ r v w q. never (find r extra) v w (z r) q; runs = λ i v w q m. h .known i b v w (k q) m }
 
   pub effect : (a : Step) (b : ℕ) (x : Bench) → Move n lim s a b x → Effect n s b x
-  unfolding find live isFresh isRunning parting sending inState deciding choosing taking noticing advancing
+  unfolding find live isFresh isRunning parting sending inState taking noticing advancing
   effect a d x (starts b v w hb k hv hw mb c₆ c₇) = record {
     extra = _;
     change = change-begin n s h b v w k;
     news = news-start n s h b v w hb k mb c₆ c₇;
     runs = λ i u y q m. runs-start n s h b v w hb k mb c₆ c₇ i u y m;
   }
-  effect a d x (abstains b hb k) = let l : live (s b .state) ≡ true = cc in
+  effect a d x (abstains b hb k) = let l = fresh-live k in
       quietly b _ (Out ∷ []) (change-part n s h b abstained refl (live-up (s b .state) l) (h .wf b .quiet l)) (λ r. refl) (λ z. cc)
   effect a d x (leaves b hb u o) = quietly b _ (Out ∷ []) (change-part n s h b left refl (here-up (s b .state) u) o) (λ r. refl) (λ z. cc)
   effect a d x (leaves-silent b hb u o) = quietly b _ [] (change-stop n s h b left refl (here-up (s b .state) u) (λ z. o)) (λ r. refl) (λ z. cc)
   effect a d x (fails b hb u) = quietly b _ [] (change-stop n s h b failed refl (here-up (s b .state) u) (λ z. absurd (z refl))) (λ r. refl) (λ z. cc)
   effect a d x (takes b f m q hb hf ne l g e) = quietly b _ [] (change-take n s h b f m q e (live-up (s b .state) l)) (λ r. refl) (λ z. z)
   effect a d x (notices b f hb hf ne l e g) = quietly b _ [] (change-notice n s h b f e (live-up (s b .state) l)) (λ r. refl) (λ z. z)
-  effect a d x (concludes b hb k e) = let l : live (s b .state) ≡ true = cc in quietly b _ (Out ∷ []) (change-decide n s h b l) (λ r. refl) (λ z. cc)
+  effect a d x (concludes b hb k e) = quietly b _ (Out ∷ []) (change-decide n s h b (running-live k)) (λ r. refl) (λ z. cc)
   effect a d x (advances b hb k e t y) = record {
     extra = _;
     change = change-advance n s h b _ _ k;
@@ -90,7 +89,7 @@ module _ (n : ℕ) (lim : Limit) (s : Run) (h : Base n s) where
   base-move a b x m = let e = effect a b x m in base-step s b x (e .extra) (e .change) n h (e .news) (e .runs)
 
 pub base-new : (n : ℕ) → Base n newRun
-unfolding newRun newBench live isFresh isRunning hasOut find
+unfolding newRun newBench live isFresh hasOut find
 base-new n = record {
   wf = λ f. record { quiet = λ z. refl; shut = λ z u. cc; empty = λ z. refl; now = λ z. cc; upto = λ q u y z. never absent u y refl z; end = tidy-nil };
   lines = λ b f. refl;

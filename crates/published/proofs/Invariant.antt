@@ -1,18 +1,18 @@
 -- The invariant of reached runs, and what follows from it at once. It is a statement about one run, never about two moments: what a bench
 -- has sent stays sent, so facts about messages are for ever, and a fact about two rounds is an induction on rounds and not on steps.
 -- The names A.7, A.9 and 5.1 are those of the source, document 000. Assumes nothing.
-use mathlib.Core.Path.{_≡_, refl}
-use Prim.Native.Nat.{ℕ, zero, suc, _+_, _≤_}
-use mathlib.Core.Bool.{Bool, true, false}
+use mathlib.Core.Path.{_≡_}
+use Prim.Native.Nat.{ℕ, zero, suc, _≤_}
+use mathlib.Core.Bool.{true, false}
 use mathlib.Core.List.{List, []}
 use native.Mathlib.Omega.{arith}
 use lib.Dec.{eqb}
 use borrow.Author.Tests.{eqb-true, eqb-false}
-use Rattle.published.specs.Rounds.{Run, Bench, Message, absent, found, State, fresh, running, failed, member, find, hasOut, isFresh, isRunning}
+use Rattle.published.specs.Rounds.{Run, Bench, Message, absent, found, State, fresh, running, failed, member, find, hasOut}
 use Rattle.published.proofs.Tests.{split}
 use Rattle.published.proofs.Worlds.{In, Sub}
 use Rattle.published.proofs.Messages.{tidy, Pre}
-use Rattle.published.proofs.Moves.{Up, live, live-up}
+use Rattle.published.proofs.Moves.{Up, live, running-live, live-up}
 
 -- bench f has sent the round r message with value v and world w
 abbrev pub M : Run → ℕ → ℕ → ℕ → ℕ → Type 0
@@ -93,14 +93,14 @@ module _ (n : ℕ) (s : Run) (h : Base n s) where
   positive i v w m = absurd (omega (arith, h .wf i .upto zero v w m))
 
   -- a bench that has sent a round's message has sent those of all earlier rounds
-  pub earlier : (i r q v w : ℕ) → M s i r v w → 1 ≤ q → q ≤ r → (v′ : ℕ) × (w′ : ℕ) × (M s i q v′ w′)
+  earlier : (i r q v w : ℕ) → M s i r v w → 1 ≤ q → q ≤ r → (v′ : ℕ) × (w′ : ℕ) × (M s i q v′ w′)
   earlier i zero q v w m p le = positive i v w m
   earlier i (suc zero) q v w m p le = let e : q ≡ 1 = omega arith in (v, w, rw e m)
   earlier i (suc (suc r)) q v w m p le = split (eqb q (suc (suc r)))
       (λ e. (v, w, rw (eqb-true q (suc (suc r)) e) m))
       (λ e. let ne = eqb-false q (suc (suc r)) e in let c = h .came i r v w m in earlier i (suc r) q (c .value₀) (c .world₀) (c .before) p (omega arith))
 
-  pub first : (i r v w : ℕ) → M s i r v w → (v₁ : ℕ) × (w₁ : ℕ) × (M s i 1 v₁ w₁)
+  first : (i r v w : ℕ) → M s i r v w → (v₁ : ℕ) × (w₁ : ℕ) × (M s i 1 v₁ w₁)
   first i r v w m = earlier i r 1 v w m (omega arith) (omega (arith, h .wf i .upto r v w m))
 
   pub began : (b : ℕ) → s b .state ≡ running → (v₁ : ℕ) × (w₁ : ℕ) × (M s b 1 v₁ w₁)
@@ -118,8 +118,10 @@ module _ (n : ℕ) (s : Run) (h : Base n s) where
         | dead f ↦ absurd (live-up (s b .state) l f)
       ]
 
+  pub running-bench : (b : ℕ) → s b .state ≡ running → In n b
+  running-bench b k = h .range b (s b .round) (s b .value) (s b .world) (h .wf b .now k)
+
   -- a running bench stands in every world
-  pub running-in : (i b r v w : ℕ) → In n b → s b .state ≡ running → M s i r v w → member b w ≡ true
-  unfolding live isFresh isRunning
-  running-in i b r v w hb k m = let o = first i r v w m in let l : live (s b .state) ≡ true = cc in
-      kept i b r v w (o .0) (o .1) hb l (o .2) (h .known i b (o .0) (o .1) k (o .2)) m
+  pub running-in : (i b r v w : ℕ) → s b .state ≡ running → M s i r v w → member b w ≡ true
+  running-in i b r v w k m = let o = first i r v w m in
+      kept i b r v w (o .0) (o .1) (running-bench b k) (running-live k) (o .2) (h .known i b (o .0) (o .1) k (o .2)) m

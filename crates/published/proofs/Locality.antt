@@ -1,16 +1,16 @@
 -- Locality: what a bench is, and so its answer to turn, depends on the steps done at that bench and the messages it took, and on nothing else.
 -- A history is the list of what befell one bench; replaying it from a new bench gives the bench that the run has. Assumes nothing.
 use mathlib.Core.Path.{_≡_, refl, sym, ap, _∙_}
-use Prim.Native.Nat.{ℕ, zero, suc}
-use mathlib.Core.Bool.{Bool, true, false, cond, _&&_}
+use Prim.Native.Nat.{ℕ}
+use mathlib.Core.Bool.{true, false, cond, _&&_}
 use mathlib.Core.List.{List, [], _∷_, _++_}
 use native.Mathlib.Omega.{arith}
 use lib.Dec.{eqb}
-use borrow.Author.Tests.{eqb-true, eqb-false, eq-eqb, ne-eqb}
-use Rattle.published.specs.Rounds.{Run, Bench, Message, abstained, failed, put, newRun, inState, entering, parting, leaving, turned, taking, takingFirst, noticing, waiting, isBench, isRunning, settled, decides, allows, Limit, Step, start, abstain, leave, fail, turn, arrive, notice, Check, needs, checks, after, Answer, refuse, done, judge, step, runFrom}
-use Rattle.published.proofs.Tests.{clash, split}
-use Rattle.published.proofs.Updates.{put-same, put-other, put-ind}
-use Rattle.published.proofs.Checks.{Fails, Holds, Verdict, against, for, judged, refusal-range}
+use borrow.Author.Tests.{eqb-true, eqb-false, ne-eqb}
+use Rattle.published.specs.Rounds.{Run, Bench, Message, abstained, failed, put, inState, entering, parting, leaving, turned, taking, takingFirst, noticing, waiting, Limit, Step, start, abstain, leave, fail, turn, arrive, notice, Check, needs, checks, after, Answer, refuse, done, judge, step, runFrom}
+use Rattle.published.proofs.Tests.{split}
+use Rattle.published.proofs.Updates.{put-same, put-other}
+use Rattle.published.proofs.Checks.{Verdict, against, for, judged, refusal-range}
 
 -- ---- what befalls a bench
 

@@ -1,7 +1,7 @@
 -- Laws of lists of messages: what is found in them, what stands behind OUT, what was taken of what was sent. Assumes nothing.
 use mathlib.Core.Path.{_≡_, refl, sym, ap, _∙_}
 use Prim.Native.Nat.{ℕ}
-use mathlib.Core.Bool.{Bool, true, false, _||_, true≢false, false≢true}
+use mathlib.Core.Bool.{Bool, true, false, _||_, true≢false, false≢true, or-true}
 use mathlib.Core.List.{List, [], _∷_, _++_, append-assoc, append-nil}
 use lib.ListN.{length, drop}
 use lib.Dec.{eqb}
@@ -36,13 +36,19 @@ find-one r q v₀ w₀ v w e = split (eqb q r)
     (λ c. let p = eqb-true q r c in (sym p, (cc), (cc)))
     (λ c. never absent v w refl (cc))
 
-pub find-before-out : (q : ℕ) (l : List Message) (u y : ℕ) → find q (l ++ (Out ∷ [])) ≡ found u y → find q l ≡ found u y
-unfolding find
-find-before-out q l u y e = go (find q l) refl
+-- what is found in two lists is found in the first or in the second
+pub find-append : {A : Type 0} (r : ℕ) (p q : List Message) (v w : ℕ) → find r (p ++ q) ≡ found v w → (find r p ≡ found v w → A) → (find r q ≡ found v w → A) → A
+find-append {A} r p q v w e f g = go (find r p) refl
   where
-    go : (k : Found) → find q l ≡ k → find q l ≡ found u y
-    go absent z = let a = find-absent q l (Out ∷ []) z in cc
-    go (found u′ y′) z = let a = find-found q l (Out ∷ []) u′ y′ z in cc
+    go : (k : Found) → find r p ≡ k → A
+    go absent z = g (sym (find-absent r p q z) ∙ e)
+    go (found u y) z = f (z ∙ sym (find-found r p q u y z) ∙ e)
+
+pub find-out : (r : ℕ) (l : List Message) → find r (l ++ (Out ∷ [])) ≡ find r l
+unfolding find
+find-out r [] = refl
+find-out r (Out ∷ l) = find-out r l
+find-out r (Round q v w ∷ l) = rw (find-out r l) refl
 
 pub hasOut-append : (p q : List Message) → hasOut (p ++ q) ≡ (hasOut p || hasOut q)
 unfolding hasOut
@@ -52,9 +58,7 @@ hasOut-append (Round k u y ∷ p) q = hasOut-append p q
 
 pub hasOut-last : (l : List Message) → hasOut (l ++ (Out ∷ [])) ≡ true
 unfolding hasOut
-hasOut-last [] = refl
-hasOut-last (Out ∷ l) = refl
-hasOut-last (Round q v w ∷ l) = hasOut-last l
+hasOut-last l = hasOut-append l (Out ∷ []) ∙ or-true (hasOut l)
 
 -- ---- nothing stands behind OUT
 

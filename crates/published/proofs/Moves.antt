@@ -1,14 +1,14 @@
 -- A step's outcome: refused, by the first check that fails, and the run is as it was; or one of nine moves, each of which changes one bench.
--- A move carries what the checks have shown. Every theorem about runs goes by cases on it; none opens `step` again. Assumes nothing.
+-- A move carries what the checks have shown. Theorems about runs go by cases on it; `Locality` alone opens `step` again. Assumes nothing.
 use mathlib.Core.Path.{_≡_, refl}
 use Prim.Native.Nat.{ℕ, zero, suc, _^_, _≤_, _<_}
-use mathlib.Core.Bool.{Bool, true, false, cond, not, _&&_, _||_, false≢true}
+use mathlib.Core.Bool.{Bool, true, false, _||_, false≢true}
 use mathlib.Core.List.{List, [], _∷_}
 use native.Mathlib.Omega.{arith}
 use lib.Dec.{eqb, leb, ltb}
 use borrow.Author.Tests.{eqb-false, leb-true, ltb-true, not-true}
 use Rattle.published.specs.Rounds.{Run, Bench, Message, State, fresh, running, decided, abstained, left, failed, put, hasOut, member, decides, settled, entering, parting, inState, taking, takingFirst, noticing, deciding, advancing, turned, leaving}
-use Rattle.published.specs.Rounds.{isBench, isFresh, isRunning, isFailed, isGone, hasAll, inAll, waiting, some, Limit, allows, Step, start, abstain, leave, fail, turn, arrive, notice, Check, needs, checks, after, Answer, refuse, done, judge, step}
+use Rattle.published.specs.Rounds.{isBench, isFresh, isRunning, isFailed, isGone, hasAll, inAll, waiting, some, Limit, allows, Step, start, abstain, leave, fail, turn, arrive, notice, checks, after, Answer, refuse, done, judge, step}
 use Rattle.published.proofs.Tests.{both, clash, cond-ind}
 use Rattle.published.proofs.Worlds.{In}
 use Rattle.published.proofs.Checks.{Holds, nothing, also, Fails, Verdict, against, for, judged, refusal-range}
@@ -23,6 +23,14 @@ live k = isFresh k || isRunning k
 abbrev pub Up : State → Type 0
 Up k = k ≡ failed → ⊥
 
+pub fresh-live : {k : State} → k ≡ fresh → live k ≡ true
+unfolding live isFresh
+fresh-live e = cc
+
+pub running-live : {k : State} → k ≡ running → live k ≡ true
+unfolding live isFresh isRunning
+running-live e = cc
+
 pub live-up : (k : State) → live k ≡ true → Up k
 unfolding live isFresh isRunning
 live-up k e q = clash (cc)
@@ -31,7 +39,7 @@ pub here-up : (k : State) → isGone k ≡ false → Up k
 unfolding isGone
 here-up k e q = clash (cc)
 
-pub fresh-is : (k : State) → isFresh k ≡ true → k ≡ fresh
+fresh-is : (k : State) → isFresh k ≡ true → k ≡ fresh
 unfolding isFresh
 fresh-is fresh e = refl
 fresh-is running e = absurd (false≢true e)
@@ -40,7 +48,7 @@ fresh-is abstained e = absurd (false≢true e)
 fresh-is left e = absurd (false≢true e)
 fresh-is failed e = absurd (false≢true e)
 
-pub running-is : (k : State) → isRunning k ≡ true → k ≡ running
+running-is : (k : State) → isRunning k ≡ true → k ≡ running
 unfolding isRunning
 running-is fresh e = absurd (false≢true e)
 running-is running e = refl
@@ -49,7 +57,7 @@ running-is abstained e = absurd (false≢true e)
 running-is left e = absurd (false≢true e)
 running-is failed e = absurd (false≢true e)
 
-pub failed-is : (k : State) → isFailed k ≡ true → k ≡ failed
+failed-is : (k : State) → isFailed k ≡ true → k ≡ failed
 unfolding isFailed
 failed-is fresh e = absurd (false≢true e)
 failed-is running e = absurd (false≢true e)

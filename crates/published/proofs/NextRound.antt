@@ -1,13 +1,13 @@
 -- What a bench has got of another is what that bench has said; so the message with which it goes on came from the round before as `Came` says. Assumes nothing.
 use mathlib.Core.Path.{_≡_, refl, sym, _∙_}
 use Prim.Native.Nat.{ℕ, suc, _≤_}
-use mathlib.Core.Bool.{Bool, true, false, not, _&&_}
+use mathlib.Core.Bool.{true, false, not, _&&_}
 use mathlib.Core.List.{List, [], _∷_, _++_, append-nil}
 use native.Mathlib.Omega.{arith}
 use lib.ListN.{length, drop}
 use lib.Dec.{eqb}
 use borrow.Author.Tests.{eqb-true, eq-eqb}
-use Rattle.published.specs.Rounds.{Run, Bench, Message, Round, absent, found, heard, running, member, find, hasOut, viewOf, got, see, isAwaited, isHeard, decides, settled, settledOn, nextWorld, heardOn, nextValue, leastOn, advancing, entering}
+use Rattle.published.specs.Rounds.{Run, Message, Round, absent, found, heard, running, member, find, hasOut, viewOf, got, see, isAwaited, isHeard, decides, settled, settledOn, nextWorld, heardOn, nextValue, entering}
 use Rattle.published.proofs.Tests.{both, clash, cond-ind}
 use Rattle.published.proofs.Worlds.{In, everyIn-get, member-worldOf}
 use Rattle.published.proofs.Messages.{find-found, find-one, all-taken}
@@ -35,16 +35,19 @@ module _ (n : ℕ) (s : Run) (h : Base n s) (b : ℕ) where
 
   module _ (hb : In n b) (k : s b .state ≡ running) where
     own-in : member b (s b .world) ≡ true
-    own-in = running-in n s h b b (s b .round) (s b .value) (s b .world) hb k (h .wf b .now k)
+    own-in = running-in n s h b b (s b .round) (s b .value) (s b .world) k (h .wf b .now k)
 
     -- a running bench hears itself
-    pub see-own : see b (s b) b ≡ heard (s b .value) (s b .world)
+    see-own : see b (s b) b ≡ heard (s b .value) (s b .world)
     unfolding see got viewOf
     see-own = let e = eq-eqb b b refl in let f = h .wf b .now k in cc
 
     in-next : (d : ℕ) → In n d → member d (nextWorld n b (s b)) ≡ (member d (s b .world) && isHeard (see b (s b) d))
     unfolding nextWorld heardOn
     in-next d hd = member-worldOf n (λ i. member i (s b .world) && isHeard (see b (s b) i)) d hd
+
+    next-both : (d : ℕ) → In n d → member d (nextWorld n b (s b)) ≡ true → (member d (s b .world) ≡ true) × (isHeard (see b (s b) d) ≡ true)
+    next-both d hd m = both (member d (s b .world)) (isHeard (see b (s b) d)) (sym (in-next d hd) ∙ m)
 
     heard-next : (d v y : ℕ) → In n d → member d (s b .world) ≡ true → see b (s b) d ≡ heard v y → member d (nextWorld n b (s b)) ≡ true
     unfolding isHeard
@@ -55,7 +58,7 @@ module _ (n : ℕ) (s : Run) (h : Base n s) (b : ℕ) where
     next-heard d hd m = viewOf-ind (λ z. isHeard z ≡ true → (v : ℕ) × (y : ℕ) × (z ≡ heard v y))
         (find (s b .round) (got b (s b) d)) (hasOut (got b (s b) d)) (s b .noticed d)
         (λ v w e q. (v, w, refl)) (λ e o q. clash (cc)) (λ g q. clash (cc)) (λ q. clash (cc))
-        (both (member d (s b .world)) (isHeard (see b (s b) d)) (sym (in-next d hd) ∙ m) .1)
+        (next-both d hd m .1)
 
     origin-next : (v : ℕ) → From (s b .value) (s b .world) (see b (s b)) n v → Origin n s (s b .round) v (nextWorld n b (s b))
     origin-next v (own z) = record {
@@ -81,12 +84,12 @@ module _ (n : ℕ) (s : Run) (h : Base n s) (b : ℕ) where
         world₀ = s b .world;
         before = rw e at (h .wf b .now k);
         le = least-le (s b .value) (s b .world) (see b (s b)) n;
-        sub = λ d hd m. both (member d (s b .world)) (isHeard (see b (s b) d)) (sym (in-next d hd) ∙ m) .0;
+        sub = λ d hd m. next-both d hd m .0;
         all-heard = λ d hd m. let o = next-heard d hd m in record {
           value-of = o .0;
           world-of = o .1;
           msg = rw e at (got-found d (s b .round) (o .0) (o .1) (see-heard b (s b) d (o .0) (o .1) (o .2)));
-          least = least-min (s b .value) (s b .world) (see b (s b)) n d (o .0) (o .1) hd (both (member d (s b .world)) (isHeard (see b (s b) d)) (sym (in-next d hd) ∙ m) .0) (o .2);
+          least = least-min (s b .value) (s b .world) (see b (s b)) n d (o .0) (o .1) hd (next-both d hd m .0) (o .2);
         };
         others = λ d hd m. viewOf-ind (λ z. not (isAwaited z) ≡ true → see b (s b) d ≡ z → Stays s (suc q) (nextWorld n b (s b)) d)
             (find (s b .round) (got b (s b) d)) (hasOut (got b (s b) d)) (s b .noticed d)

@@ -5,7 +5,7 @@ use Prim.Native.Nat.{ℕ, zero, suc, _≤_}
 use mathlib.Core.Bool.{true}
 use mathlib.Core.List.{List, [], _∷_}
 use native.Mathlib.Omega.{arith}
-use Rattle.published.specs.Rounds.{Run, running, Decision, chosen, member, Limit, Step, Answer, refuse, done, step, runFrom, newRun}
+use Rattle.published.specs.Rounds.{Run, running, chosen, member, Limit, Step, Answer, refuse, done, step, runFrom, newRun}
 use Rattle.published.proofs.Worlds.{In}
 use Rattle.published.proofs.Moves.{Outcome, refused, moved, step-outcome}
 use Rattle.published.proofs.Invariant.{M, Base, positive}
@@ -84,8 +84,7 @@ module _ (n : ℕ) (s : Run) (h : Reached n s) where
 
   -- A.12: nobody who can still turn is more than one round behind anybody who started
   pub one-ahead : (i b r v w : ℕ) → s b .state ≡ running → M s i r v w → r ≤ suc (s b .round)
-  one-ahead i b r v w k m = let g = reached-base in
-      window.one-ahead n s g i b r v w (g .range b (s b .round) (s b .value) (s b .world) (g .wf b .now k)) k m
+  one-ahead = window.one-ahead n s reached-base
 
   -- a member of a later world has sent the round before
   pub members-heard : (i r v w : ℕ) → M s i (suc (suc r)) v w → (j : ℕ) → In n j → member j w ≡ true → (u : ℕ) × (y : ℕ) × (M s j (suc r) u y)
@@ -94,5 +93,4 @@ module _ (n : ℕ) (s : Run) (h : Reached n s) where
   -- a running bench has the value that was decided
   pub decided-value : (i d : ℕ) → s i .decision ≡ chosen d → (b : ℕ) → s b .state ≡ running → s b .value ≡ d
   unfolding Reached
-  decided-value i d e b k = let g = reached-base in
-      cert-now n s g i d (h .cert i d e) b (g .range b (s b .round) (s b .value) (s b .world) (g .wf b .now k)) k
+  decided-value i d e = cert-now n s (h .base) i d (h .cert i d e)

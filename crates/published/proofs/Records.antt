@@ -1,11 +1,11 @@
 -- What a step adds to the record of a reached run: a decision stays as it is, and a proposal comes only from an accepted start. Assumes nothing.
 use mathlib.Core.Path.{_≡_, refl, sym, ap, _∙_}
 use Prim.Native.Nat.{ℕ, suc, _≤_}
-use mathlib.Core.List.{List, [], _∷_, _++_}
+use mathlib.Core.List.{[], _∷_, _++_}
 use native.Mathlib.Omega.{arith}
-use Rattle.published.specs.Rounds.{Run, Bench, Message, Round, Out, Found, absent, found, fresh, Decision, chosen, put, find, inState, inRound, sending, taking, noticing, choosing, entering, parting, deciding, advancing, nextValue, nextWorld, Limit, Step, start, Answer, refuse, done, step}
+use Rattle.published.specs.Rounds.{Run, Bench, Round, found, chosen, find, inState, inRound, sending, taking, noticing, choosing, entering, parting, deciding, advancing, nextValue, nextWorld, Limit, Step, start, Answer, refuse, done, step}
 use Rattle.published.proofs.Updates.{put-ind}
-use Rattle.published.proofs.Messages.{find-absent, find-found, find-one, find-before-out}
+use Rattle.published.proofs.Messages.{find-append, find-one, find-out}
 use Rattle.published.proofs.Moves.{Move, starts, abstains, leaves, leaves-silent, fails, takes, notices, concludes, advances, Outcome, refused, moved, step-outcome}
 use Rattle.published.proofs.Invariant.{M}
 use Rattle.published.proofs.Reached.{Reached, reached-base, decided-value}
@@ -42,23 +42,20 @@ module _ (n : ℕ) (lim : Limit) (s : Run) (h : Reached n s) where
 
   -- a message of a later round leaves the first as it was
   first-kept : (b r v₀ w₀ v w : ℕ) → 2 ≤ r → find 1 (s b .sent ++ (Round r v₀ w₀ ∷ [])) ≡ found v w → M s b 1 v w
-  first-kept b r v₀ w₀ v w p e = go (find 1 (s b .sent)) refl
-    where
-      go : (k : Found) → find 1 (s b .sent) ≡ k → M s b 1 v w
-      go absent z = absurd (omega (arith, find-one 1 r v₀ w₀ v w (sym (find-absent 1 (s b .sent) (Round r v₀ w₀ ∷ []) z) ∙ e) .0))
-      go (found u y) z = z ∙ sym (find-found 1 (s b .sent) (Round r v₀ w₀ ∷ []) u y z) ∙ e
+  first-kept b r v₀ w₀ v w p e = find-append 1 (s b .sent) (Round r v₀ w₀ ∷ []) v w e
+      (λ z. z) (λ z. absurd (omega (arith, find-one 1 r v₀ w₀ v w z .0)))
 
   proposal : (a : Step) (b : ℕ) (x : Bench) (v w : ℕ) → Move n lim s a b x → find 1 (x .sent) ≡ found v w → step n lim s a .number ≡ 0 → Proposal n lim s a b v w
   unfolding entering parting deciding advancing inState inRound sending taking noticing choosing
   proposal a c x v w (starts b v₀ w₀ hb k hv hw mb c₆ c₇) e z =
       let o = find-one 1 1 v₀ w₀ v w (rw (reached-base n s h .wf b .empty k) at e) in now (rw (o .1, o .2) refl) z
-  proposal a c x v w (abstains b hb k) e z = earlier (find-before-out 1 (s b .sent) v w e)
-  proposal a c x v w (leaves b hb u o) e z = earlier (find-before-out 1 (s b .sent) v w e)
+  proposal a c x v w (abstains b hb k) e z = earlier (sym (find-out 1 (s b .sent)) ∙ e)
+  proposal a c x v w (leaves b hb u o) e z = earlier (sym (find-out 1 (s b .sent)) ∙ e)
   proposal a c x v w (leaves-silent b hb u o) e z = earlier e
   proposal a c x v w (fails b hb u) e z = earlier e
   proposal a c x v w (takes b f m q hb hf ne l g i) e z = earlier e
   proposal a c x v w (notices b f hb hf ne l i g) e z = earlier e
-  proposal a c x v w (concludes b hb k t) e z = earlier (find-before-out 1 (s b .sent) v w e)
+  proposal a c x v w (concludes b hb k t) e z = earlier (sym (find-out 1 (s b .sent)) ∙ e)
   proposal a c x v w (advances b hb k t u y) e z = let g = reached-base n s h .wf b in
       earlier (first-kept b (suc (s b .round)) (nextValue n b (s b)) (nextWorld n b (s b)) v w (omega (arith, g .upto (s b .round) (s b .value) (s b .world) (g .now k))) e)
 

@@ -1,13 +1,12 @@
 -- A refused step returns the run itself, so a list of steps with its refused ones left out leads to the same run. Assumes nothing.
-use mathlib.Core.Path.{_≡_, refl, sym, ap, _∙_}
-use Prim.Native.Nat.{ℕ, zero, suc}
-use mathlib.Core.Bool.{Bool, true, false, cond}
+use mathlib.Core.Path.{_≡_, refl}
+use Prim.Native.Nat.{ℕ, suc}
+use mathlib.Core.Bool.{cond}
 use mathlib.Core.List.{List, [], _∷_, map}
-use native.Mathlib.Omega.{arith}
 use lib.Dec.{eqb}
 use borrow.Author.Tests.{eqb-true, eqb-false}
-use Rattle.published.specs.Rounds.{Run, Limit, Step, checks, Answer, refuse, done, step, runFrom, answers}
-use Rattle.published.proofs.Tests.{clash, split, cond-ind}
+use Rattle.published.specs.Rounds.{Run, Limit, Step, Answer, refuse, done, step, runFrom, answers}
+use Rattle.published.proofs.Tests.{cond-ind}
 use Rattle.published.proofs.Checks.{OneOf, first, further, refusals, refusal-among}
 use Rattle.published.proofs.Moves.{Outcome, refused, moved, step-outcome}
 

@@ -1,16 +1,16 @@
 -- What a step leaves of the bench at which it is done: its state fits what it has sent, and the change is one that `base-step` takes. Assumes nothing.
 use mathlib.Core.Path.{_≡_, refl, sym, _∙_}
 use Prim.Native.Nat.{ℕ, suc, _≤_}
-use mathlib.Core.Bool.{Bool, true, false}
+use mathlib.Core.Bool.{true, false}
 use mathlib.Core.List.{List, [], _∷_, _++_, append-nil}
 use native.Mathlib.Omega.{arith}
 use borrow.Author.Tests.{eq-eqb}
-use Rattle.published.specs.Rounds.{Run, Bench, Message, Round, Out, Found, absent, found, State, fresh, running, decided, failed, put, find, hasOut, isFresh, isRunning, inState, inRound, sending, taking, noticing, choosing, entering, parting, deciding, waiting}
+use Rattle.published.specs.Rounds.{Run, Bench, Message, Round, Out, Found, absent, found, State, fresh, running, decided, failed, find, hasOut, isFresh, isRunning, inState, inRound, sending, taking, noticing, choosing, entering, parting, deciding, waiting}
 use Rattle.published.proofs.Tests.{clash}
 use Rattle.published.proofs.Updates.{put-ind}
-use Rattle.published.proofs.Messages.{find-absent, find-found, find-one, find-before-out, hasOut-append, hasOut-last, tidy, tidy-snoc, Pre, pre-next}
-use Rattle.published.proofs.Moves.{Up, live, live-up}
-use Rattle.published.proofs.Invariant.{Wf, Base}
+use Rattle.published.proofs.Messages.{find-append, find-absent, find-one, find-out, hasOut-append, hasOut-last, tidy, tidy-snoc, Pre, pre-next}
+use Rattle.published.proofs.Moves.{Up, live, fresh-live, running-live, live-up}
+use Rattle.published.proofs.Invariant.{Wf, WfB, Base}
 use Rattle.published.proofs.Changes.{Change}
 
 -- ---- the state fits what was sent
@@ -48,7 +48,9 @@ wf-advanced r v w v′ w′ l h = record {
   shut = λ z u. cc;
   empty = λ z. cc;
   now = λ z. now′ (find (suc r) l) refl;
-  upto = λ q u y. up q u y (find q l) refl;
+  upto = λ q u y z. find-append q l (Round (suc r) v′ w′ ∷ []) u y z
+      (λ e. omega (arith, h .upto q u y e))
+      (λ e. omega (arith, find-one q (suc r) v′ w′ u y e .0));
   end = tidy-snoc l (Round (suc r) v′ w′) (h .quiet refl);
 }
   where
@@ -56,54 +58,35 @@ wf-advanced r v w v′ w′ l h = record {
     now′ absent e = find-absent (suc r) l (Round (suc r) v′ w′ ∷ []) e ∙ unfold find in rw (eq-eqb (suc r) (suc r) refl) refl
     now′ (found u y) e = absurd (omega (arith, h .upto (suc r) u y e))
 
-    up : (q u y : ℕ) (k : Found) → find q l ≡ k → find q (l ++ (Round (suc r) v′ w′ ∷ [])) ≡ found u y → (1 ≤ q) × (q ≤ suc r)
-    up q u y absent e z = omega (arith, find-one q (suc r) v′ w′ u y (sym (find-absent q l (Round (suc r) v′ w′ ∷ []) e) ∙ z) .0)
-    up q u y (found u′ y′) e z = omega (arith, h .upto q u′ y′ e)
-
 -- ---- the changes
 
 module _ (n : ℕ) (s : Run) (h : Base n s) (b : ℕ) where
+  -- its lines stay as they are
+  change-own : (x : Bench) (extra : List Message) → x .taken ≡ s b .taken → x .noticed ≡ s b .noticed → WfB x → x .sent ≡ s b .sent ++ extra
+      → (hasOut (s b .sent) ≡ true → extra ≡ []) → Up (s b .state) → Change s b x extra
+  change-own x extra t g w e q a =
+      record { wf = w; sent-is = e; silent = q; alive = a; lines = λ f. rw t (h .lines b f); gone = λ f. rw g (h .gone b f) }
+
   -- it stops, and sends nothing
   pub change-stop : (k : State) → live k ≡ false → Up (s b .state) → (Up k → hasOut (s b .sent) ≡ true) → Change s b (inState k (s b)) []
   unfolding inState
-  change-stop k e a o = record {
-    wf = wf-dead k (s b .round) (s b .value) (s b .world) (s b .sent) e o (h .wf b .upto) (h .wf b .end);
-    sent-is = sym (append-nil (s b .sent));
-    silent = λ z. refl;
-    live-back = λ z. cc;
-    alive = a;
-    lines = λ f. h .lines b f;
-    gone = λ f. h .gone b f;
-  }
+  change-stop k e a o = change-own (inState k (s b)) [] refl refl
+      (wf-dead k (s b .round) (s b .value) (s b .world) (s b .sent) e o (h .wf b .upto) (h .wf b .end))
+      (sym (append-nil (s b .sent))) (λ z. refl) a
 
   wf-out : (k : State) → live k ≡ false → hasOut (s b .sent) ≡ false → Wf k (s b .round) (s b .value) (s b .world) (s b .sent ++ (Out ∷ []))
   wf-out k e o = wf-dead k (s b .round) (s b .value) (s b .world) (s b .sent ++ (Out ∷ [])) e (λ u. hasOut-last (s b .sent))
-      (λ q u y z. h .wf b .upto q u y (find-before-out q (s b .sent) u y z)) (tidy-snoc (s b .sent) Out o)
+      (λ q u y z. h .wf b .upto q u y (sym (find-out q (s b .sent)) ∙ z)) (tidy-snoc (s b .sent) Out o)
 
   -- it stops, and sends OUT
   pub change-part : (k : State) → live k ≡ false → Up (s b .state) → hasOut (s b .sent) ≡ false → Change s b (parting k (s b)) (Out ∷ [])
   unfolding parting sending inState
-  change-part k e a o = record {
-    wf = wf-out k e o;
-    sent-is = refl;
-    silent = λ z. cc;
-    live-back = λ z. cc;
-    alive = a;
-    lines = λ f. h .lines b f;
-    gone = λ f. h .gone b f;
-  }
+  change-part k e a o = change-own (parting k (s b)) (Out ∷ []) refl refl (wf-out k e o) refl (λ z. cc) a
 
   pub change-decide : live (s b .state) ≡ true → Change s b (deciding (s b)) (Out ∷ [])
   unfolding deciding parting sending inState choosing live isFresh isRunning
-  change-decide l = let o = h .wf b .quiet l in record {
-    wf = wf-out decided refl o;
-    sent-is = refl;
-    silent = λ z. cc;
-    live-back = λ z. l;
-    alive = live-up (s b .state) l;
-    lines = λ f. h .lines b f;
-    gone = λ f. h .gone b f;
-  }
+  change-decide l = let o = h .wf b .quiet l in
+      change-own (deciding (s b)) (Out ∷ []) refl refl (wf-out decided refl o) refl (λ z. cc) (live-up (s b .state) l)
 
   pub change-take : (f : ℕ) (m : Message) (q : List Message) → waiting s b f ≡ m ∷ q → Up (s b .state) → Change s b (taking f m (s b)) []
   unfolding taking waiting
@@ -111,7 +94,6 @@ module _ (n : ℕ) (s : Run) (h : Base n s) (b : ℕ) where
     wf = h .wf b;
     sent-is = sym (append-nil (s b .sent));
     silent = λ z. refl;
-    live-back = λ z. z;
     alive = a;
     lines = λ g. put-ind (λ l. Pre l (s g .sent)) (s b .taken) f (s b .taken f ++ (m ∷ [])) g
         (λ z. rw z (pre-next (s f .sent) (s b .taken f) m q (h .lines b f) e))
@@ -125,7 +107,6 @@ module _ (n : ℕ) (s : Run) (h : Base n s) (b : ℕ) where
     wf = h .wf b;
     sent-is = sym (append-nil (s b .sent));
     silent = λ z. refl;
-    live-back = λ z. z;
     alive = a;
     lines = λ g. h .lines b g;
     gone = λ g. put-ind (λ c. c ≡ true → s g .state ≡ failed) (s b .noticed) f true g (λ z q. rw z e) (λ z q. h .gone b g q);
@@ -134,20 +115,11 @@ module _ (n : ℕ) (s : Run) (h : Base n s) (b : ℕ) where
   -- it goes into a round, and sends that round's message
   entered : (r v w : ℕ) → live (s b .state) ≡ true → Wf running r v w (s b .sent ++ (Round r v w ∷ [])) → Change s b (entering r v w (s b)) (Round r v w ∷ [])
   unfolding entering sending inRound
-  entered r v w l wf = let o = h .wf b .quiet l in record {
-    wf = wf;
-    sent-is = refl;
-    silent = λ z. cc;
-    live-back = λ z. l;
-    alive = live-up (s b .state) l;
-    lines = λ f. h .lines b f;
-    gone = λ f. h .gone b f;
-  }
+  entered r v w l wf = let o = h .wf b .quiet l in
+      change-own (entering r v w (s b)) (Round r v w ∷ []) refl refl wf refl (λ z. cc) (live-up (s b .state) l)
 
   pub change-begin : (v w : ℕ) → s b .state ≡ fresh → Change s b (entering 1 v w (s b)) (Round 1 v w ∷ [])
-  unfolding live isFresh isRunning
-  change-begin v w e = entered 1 v w (cc) (wf-begun v w (s b .sent) (h .wf b .empty e))
+  change-begin v w e = entered 1 v w (fresh-live e) (wf-begun v w (s b .sent) (h .wf b .empty e))
 
   pub change-advance : (v w : ℕ) → s b .state ≡ running → Change s b (entering (suc (s b .round)) v w (s b)) (Round (suc (s b .round)) v w ∷ [])
-  unfolding live isFresh isRunning
-  change-advance v w e = entered (suc (s b .round)) v w (cc) (wf-advanced (s b .round) (s b .value) (s b .world) v w (s b .sent) (rw e at (h .wf b)))
+  change-advance v w e = entered (suc (s b .round)) v w (running-live e) (wf-advanced (s b .round) (s b .value) (s b .world) v w (s b .sent) (rw e at (h .wf b)))

@@ -1,14 +1,14 @@
 -- What is proved of the published rounds, for every number of benches n, every limit on rounds and every list of steps from the empty run, refused
--- ones among them. Each statement is one line; the proofs are in the other files. Assumes nothing.
-use mathlib.Core.Path.{_≡_, refl, sym, _∙_}
+-- ones among them. Each statement stands below its words; the proofs are in the other files. Assumes nothing.
+use mathlib.Core.Path.{_≡_, sym, _∙_}
 use Prim.Native.Nat.{ℕ, suc, _≤_}
 use mathlib.Core.Bool.{true}
-use mathlib.Core.List.{List, [], _∷_, map}
-use Rattle.published.specs.Rounds.{Run, found, running, chosen, member, find, Limit, Step, turn, step, runFrom, answers, newRun}
+use mathlib.Core.List.{List, _∷_, map}
+use Rattle.published.specs.Rounds.{Run, running, chosen, member, Limit, Step, turn, step, runFrom, answers, newRun}
 use Rattle.published.proofs.Worlds.{In}
 use Rattle.published.proofs.Checks.{OneOf, refusals}
 use Rattle.published.proofs.Invariant.{M}
-use Rattle.published.proofs.Reached.{Proposed, Bounded, Reached, reached-run, decisions-agree, decision-proposed, decision-bounded}
+use Rattle.published.proofs.Reached.{Proposed, Bounded, reached-run, decisions-agree, decision-proposed, decision-bounded}
 use Rattle.published.proofs.Reached as reached
 use Rattle.published.proofs.Refusals as refusing
 use Rattle.published.proofs.Locality as local

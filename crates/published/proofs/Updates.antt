@@ -1,7 +1,6 @@
 -- Laws of `put`, a function changed at one place. `put-ind` is the rule, and the others are uses of it. Assumes nothing.
-use mathlib.Core.Path.{_≡_, refl, _∙_, fun-ext}
+use mathlib.Core.Path.{_≡_, refl, fun-ext}
 use Prim.Native.Nat.{ℕ}
-use mathlib.Core.Bool.{cond}
 use lib.Dec.{eqb}
 use borrow.Author.Tests.{eqb-true, eqb-false}
 use Rattle.published.specs.Rounds.{put}
@@ -16,10 +15,6 @@ put-same s b x = put-ind (λ y. y ≡ x) s b x b (λ e. refl) (λ e. absurd (e r
 
 pub put-other : {A : Type 0} (s : ℕ → A) (b : ℕ) (x : A) (i : ℕ) → (i ≡ b → ⊥) → put s b x i ≡ s i
 put-other s b x i h = put-ind (λ y. y ≡ s i) s b x i (λ e. absurd (h e)) (λ e. refl)
-
-pub put-put : {A : Type 0} (s : ℕ → A) (b : ℕ) (x y : A) → put (put s b x) b y ≡ put s b y
-put-put s b x y = fun-ext λ i. put-ind (λ z. put (put s b x) b y i ≡ z) s b y i
-    (λ e. rw (e, put-same)) (λ e. put-other (put s b x) b y i e ∙ put-other s b x i e)
 
 pub put-self : {A : Type 0} (s : ℕ → A) (b : ℕ) → put s b (s b) ≡ s
 put-self s b = fun-ext λ i. put-ind (λ z. z ≡ s i) s b (s b) i (λ e. rw e refl) (λ e. refl)

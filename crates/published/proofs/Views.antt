@@ -1,13 +1,12 @@
 -- Laws of views: how a bench sees another, and the least value among those heard. Assumes nothing.
 use mathlib.Core.Path.{_≡_, refl}
-use Prim.Native.Nat.{ℕ, zero, suc, _+_, _≤_, min}
-use mathlib.Core.Bool.{Bool, true, false, not, _||_}
-use native.Mathlib.Numerals.{add-one}
+use Prim.Native.Nat.{ℕ, zero, suc, _≤_, min}
+use mathlib.Core.Bool.{Bool, true, false, not}
 use native.Mathlib.Omega.{arith}
 use lib.Dec.{eqb, leb}
 use borrow.Author.Tests.{eqb-true, eqb-false, leb-true, leb-false}
 use Rattle.published.specs.Rounds.{Bench, Found, absent, found, View, heard, excused, missed, awaited, member, find, hasOut, viewOf, got, see, isAwaited, agrees, lesser, leastOn, decides, decidesOn, settled, settledOn}
-use Rattle.published.proofs.Tests.{clash, split}
+use Rattle.published.proofs.Tests.{split}
 use Rattle.published.proofs.Worlds.{In, everyIn-get, everyIn-make}
 
 -- ---- heard, excused, missed, awaited
@@ -65,11 +64,6 @@ lesser-le false z m = omega arith
 lesser-heard : (c : Bool) (z : View) (m u y : ℕ) → c ≡ true → z ≡ heard u y → lesser c z m ≤ u
 unfolding lesser
 lesser-heard c z m u y p q = rw (p, q) (let g : min u m ≤ u = omega arith in g)
-
--- one more bench, as a loop counts
-pub least-next : (i v w : ℕ) (z : ℕ → View) → leastOn (i + 1) v w z ≡ lesser (member (i + 1) w) (z (i + 1)) (leastOn i v w z)
-unfolding leastOn
-least-next i v w z = rw add-one
 
 module _ (v w : ℕ) (z : ℕ → View) where
   pub least-le : (k : ℕ) → leastOn k v w z ≤ v

@@ -1,6 +1,6 @@
 -- Laws of worlds: members, tests of every bench or every member, the world of a test. Assumes nothing.
 use mathlib.Core.Path.{_≡_, refl, _∙_}
-use Prim.Native.Nat.{ℕ, zero, suc, _+_, _-_, _*_, _/_, _%_, _^_, _≤_, _<_}
+use Prim.Native.Nat.{ℕ, zero, suc, _+_, _*_, _/_, _%_, _^_, _≤_, _<_}
 use mathlib.Core.Bool.{Bool, true, false, cond, not, _&&_, _||_}
 use native.Mathlib.Nat.{div-div-eq-div-mul, pow-succ'}
 use native.Mathlib.Numerals.{add-one}
@@ -8,7 +8,7 @@ use native.Mathlib.Omega.{arith}
 use lib.Dec.{eqb}
 use borrow.Author.Tests.{eqb-true, eqb-false, eq-eqb, ne-eqb}
 use Rattle.published.specs.Rounds.{bit, member, every, everyIn, within, worldOf}
-use Rattle.published.proofs.Tests.{both, implies, imply, clash, split}
+use Rattle.published.proofs.Tests.{both, implies, imply, split}
 
 -- bench i is one of the benches 1 to n
 abbrev pub In : ℕ → ℕ → Type 0
@@ -27,18 +27,6 @@ pub every-make : (n : ℕ) (p : ℕ → Bool) → ((i : ℕ) → In n i → p i 
 unfolding every
 every-make zero p f = refl
 every-make (suc n) p f = let a = every-make n p (λ i h. f i (omega arith)) in let b = f (suc n) (omega arith) in cc
-
--- a bench at which the test fails
-pub every-fails : (n : ℕ) (p : ℕ → Bool) → every n p ≡ false → (i : ℕ) × In n i × (p i ≡ false)
-unfolding every
-every-fails zero p e = clash (cc)
-every-fails (suc n) p e = split (p (suc n))
-    (λ z. let r = every-fails n p (and-false (every n p) (p (suc n)) e z) in (r .0, (omega arith), r .2))
-    (λ z. (suc n, (omega arith), z))
-  where
-    and-false : (a c : Bool) → (a && c) ≡ false → c ≡ true → a ≡ false
-    and-false true c e z = clash (cc)
-    and-false false c e z = refl
 
 pub everyIn-get : (n w : ℕ) (p : ℕ → Bool) (i : ℕ) → everyIn n w p ≡ true → In n i → member i w ≡ true → p i ≡ true
 unfolding everyIn
@@ -94,26 +82,7 @@ unfolding bit
 bit-pow zero w = let e : w / 1 ≡ w = omega arith in rw e
 bit-pow (suc i) w = bit-pow i (w / 2) ∙ rw (div-div-eq-div-mul w 2 (2 ^ i), ← pow-succ' 2 i)
 
-pub member-bit : (b w : ℕ) → 1 ≤ b → member b w ≡ bit (b - 1) w
-unfolding member
-member-bit zero w h = absurd (omega arith)
-member-bit (suc i) w h = let e : suc i - 1 ≡ i = omega arith in rw e
-
 -- one more bench, as a loop counts
 pub every-next : (i : ℕ) (p : ℕ → Bool) → every (i + 1) p ≡ (every i p && p (i + 1))
 unfolding every
 every-next i p = rw add-one
-
-worldOf-snoc : (n : ℕ) (p : ℕ → Bool) → worldOf (suc n) p ≡ worldOf n p + cond (p (suc n)) (2 ^ n) 0
-unfolding worldOf
-worldOf-snoc zero p = omega arith
-worldOf-snoc (suc n) p =
-    let ih = worldOf-snoc n (λ i. p (suc i)) in let d = double (p (suc (suc n))) (2 ^ n) in
-    let e : 2 * 2 ^ n ≡ 2 ^ suc n = omega arith in let d′ = rw e at d in omega arith
-  where
-    double : (c : Bool) (k : ℕ) → 2 * cond c k 0 ≡ cond c (2 * k) 0
-    double true k = refl
-    double false k = refl
-
-pub worldOf-next : (i : ℕ) (p : ℕ → Bool) → worldOf (i + 1) p ≡ worldOf i p + cond (p (i + 1)) (2 ^ i) 0
-worldOf-next i p = rw add-one (worldOf-snoc i p)

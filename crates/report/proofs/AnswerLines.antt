@@ -1,18 +1,21 @@
 -- The lines of the answers: how many bytes they have, and how they are stored one after another. Assumes nothing.
-use Prim.Native.Nat.{ℕ, zero, suc, _+_, _*_, _≤_, _<_}
+use Prim.Native.Nat.{ℕ, suc, _+_, _*_, _≤_, _<_}
 use native.Mathlib.Omega.{arith}
 use native.Mathlib.Nat.{add-zero}
 use native.Mathlib.Numerals.{add-one}
-use mathlib.Core.List.{List, [], _∷_, _++_}
+use mathlib.Core.Bool.{true}
+use mathlib.Core.List.{List, [], _∷_, _++_, append-assoc}
 use mathlib.Core.Path.{_≡_, refl, sym, ap, _∙_}
+use lib.Dec.{leb}
 use lib.ListN.{length, getD, drop, length-append, drop-of-length-le}
+use borrow.Author.Tests.{le-leb}
 use Rattle.runtext.specs.Spelling.{ascii, digits}
 use Rattle.runtext.specs.Stored.{Stored}
 use Rattle.runtext.proofs.Places.{cut}
 use Rattle.runtext.proofs.Decimals.{digits-length}
 use Rattle.runtext.proofs.Stores.{Left, left-start, left-step, left-end, left-room}
+use Rattle.runtext.proofs.Puts.{Put, put-then, put-last}
 use Rattle.report.specs.Report.{answerLine, answerLines}
-use Rattle.report.proofs.Storing.{Put, put-then, put-last}
 
 -- ---- one line
 
@@ -28,11 +31,12 @@ line-short k a n e = omega (arith, line-length k a, digits-length k, digits-leng
 pub line-measured : (k a m n : ℕ) → m ≡ length (digits k) → n ≡ length (digits a) → 14 + m + n ≡ length (answerLine k a)
 line-measured k a m n p q = omega (arith, line-length k a)
 
-pub line-stored : (k a : ℕ) {l l₁ l₂ l₃ : List ℕ} {at n₁ n₂ n₃ : ℕ} → Put l at (ascii "line=" ++ digits k) n₁ l₁
-    → Put l₁ n₁ (ascii " answer=" ++ digits a) n₂ l₂ → Put l₂ n₂ (10 ∷ []) n₃ l₃ → at + length (answerLine k a) ≤ length l
-    → Stored l at (answerLine k a) n₃ l₃
+pub line-stored : (k a : ℕ) {l l₁ l₂ : List ℕ} {at n₁ n₂ : ℕ} → Put l at (ascii "line=" ++ (digits k ++ (ascii " answer=" ++ digits a))) n₁ l₁
+    → Put l₁ n₁ (10 ∷ []) n₂ l₂ → at + length (answerLine k a) ≤ length l → Stored l at (answerLine k a) n₂ l₂
 unfolding answerLine
-line-stored k a p q r h = put-then (ascii "line=" ++ digits k) _ p (put-then (ascii " answer=" ++ digits a) _ q (put-last _ r)) h
+line-stored k a p q h =
+    let e = append-assoc (digits k) (ascii " answer=" ++ digits a) (10 ∷ []) in
+    rw (← e) (put-then (ascii "line=" ++ (digits k ++ (ascii " answer=" ++ digits a))) (10 ∷ []) p (put-last _ q) (rw (← e) at h))
 
 -- ---- the lines from a place on
 
@@ -49,6 +53,14 @@ pub lines-short : (l : List ℕ) (k : ℕ) → length (answerLines k l) ≤ 34 *
 unfolding answerLines
 lines-short [] k = omega arith
 lines-short (a ∷ l) k = omega (arith, length-append (answerLine k a) (answerLines (suc k) l), line-short k a (length (answerLine k a)) refl, lines-short l (suc k))
+
+-- room for the lines and n bytes behind them
+module _ (l : List ℕ) (n m : ℕ) where
+  pub lines-fit : 34 * length l + n ≤ m → true ≡ leb (length (answerLines 1 l) + n) m
+  lines-fit h = sym (le-leb (length (answerLines 1 l) + n) m (omega (arith, lines-short l 1)))
+
+  pub lines-counted : {k : ℕ} → k ≡ length (answerLines 1 l) → leb (k + n) m ≡ leb (length (answerLines 1 l) + n) m
+  lines-counted e = ap (λ (z : ℕ). leb (z + n) m) e
 
 -- ---- measured line by line
 

@@ -1,17 +1,17 @@
 -- The lines of the benches, by what is read of the table: those of the run that the tables stand for, and how they are stored. Assumes nothing.
 use Prim.Native.Nat.{ℕ, zero, suc, _+_, _*_, _≤_, _<_}
 use native.Mathlib.Omega.{arith}
-use native.Mathlib.Nat.{add-zero}
 use native.Mathlib.Numerals.{add-one, sub-one}
 use mathlib.Core.Bool.{Bool, true, false, cond}
 use mathlib.Core.List.{List, [], _∷_, _++_}
-use mathlib.Core.Path.{_≡_, refl, sym, ap, _∙_}
-use lib.Dec.{eqb, leb}
+use mathlib.Core.Path.{_≡_, refl, sym, _∙_}
+use lib.Dec.{eqb}
 use lib.ListN.{length, length-append}
 use borrow.Author.Tests.{ne-eqb, eq-eqb, le-leb}
 use Rattle.published.specs.Rounds.{Message, Round, Out, State, fresh, running, decided, abstained, left, failed, Decision, none, chosen, isFresh, isBench}
 use Rattle.published.proofs.Tests.{cond-ind}
-use Rattle.tables.specs.Runs.{roundsOf, lineOf, stateOf, decisionOf, benchOf, runBy, runOf}
+use Rattle.tables.specs.Runs.{roundsOf, lineOf, stateOf, benchOf, runBy, runOf}
+use Rattle.tables.proofs.States.{fresh-is}
 use Rattle.rounds.specs.declared.Decision.{Decision as Decided}
 use Rattle.rounds.specs.Decisions.{decisionIs}
 use Rattle.rounds.specs.Reads.{stateWord, sentWord, decisionAt}
@@ -19,9 +19,9 @@ use Rattle.runtext.specs.Spelling.{ascii, digits}
 use Rattle.runtext.specs.Stored.{Stored}
 use Rattle.runtext.proofs.Decimals.{digits-length}
 use Rattle.runtext.proofs.Stores.{stored-nil, stored-then, stored-length}
+use Rattle.runtext.proofs.Puts.{Put, put-then, put-last}
 use Rattle.report.specs.Report.{stateText, lastRound, valueText, benchLine, benchLines}
 use Rattle.report.specs.Parts.{rowLine, rowLines}
-use Rattle.report.proofs.Storing.{Put, put-then, put-last}
 
 -- ---- the row's words are what the report says of the bench
 
@@ -46,22 +46,13 @@ pub last-sent : (R : ℕ) (log : List ℕ) (n : ℕ) (out : Bool) → lastRound 
 unfolding lineOf
 last-sent R log n out = last-append 0 (roundsOf R log n) _ ∙ rw (last-rounds R log n) (last-out n out)
 
-fresh-word : (w : ℕ) → isFresh (stateOf w) ≡ eqb w 0
-unfolding isFresh stateOf
-fresh-word zero = refl
-fresh-word (suc zero) = refl
-fresh-word (suc (suc zero)) = refl
-fresh-word (suc (suc (suc zero))) = refl
-fresh-word (suc (suc (suc (suc zero)))) = refl
-fresh-word (suc (suc (suc (suc (suc n))))) = sym (ne-eqb (suc (suc (suc (suc (suc n))))) 0 (λ e. omega arith))
-
 bench-is : (k : ℕ) → k < 16 → isBench 16 (suc k) ≡ true
 unfolding isBench
 bench-is k h = rw (le-leb 1 (suc k) (omega arith), le-leb (suc k) 16 (omega arith)) refl
 
 row-line : (t l : List (List ℕ)) (k : ℕ) → k < 16 → rowLine t (suc k) ≡ benchLine (suc k) (runOf 16 96 t l (suc k))
 unfolding rowLine benchLine stateWord sentWord decisionAt runOf runBy benchOf
-row-line t l k h = simp (bench-is k h, sub-one, last-sent, fresh-word)
+row-line t l k h = simp (bench-is k h, sub-one, last-sent, fresh-is)
 
 pub row-lines : (t l : List (List ℕ)) (n : ℕ) → n ≤ 16 → rowLines t n ≡ benchLines n (runOf 16 96 t l)
 unfolding rowLines benchLines

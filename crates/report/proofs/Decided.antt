@@ -3,11 +3,11 @@
 use mathlib.Core.Path.{_≡_, refl}
 use Prim.Native.Nat.{ℕ, _≤_}
 use mathlib.Core.List.{List, [], _∷_}
-use Rattle.published.specs.Rounds.{Run, absent, chosen, newRun, newBench, find, start, refuse, step, upTo}
+use Rattle.published.specs.Rounds.{Run, absent, chosen, newRun, newBench, find, start, refuse, upTo}
 use Rattle.published.proofs.Messages.{never}
 use Rattle.published.proofs.Invariant.{M}
 use Rattle.published.proofs.Reached.{Reached, reached-new, reached-step, decisions-agree, decision-proposed, decision-bounded}
-use Rattle.published.proofs.Records.{Proposal, earlier, now, proposal-from}
+use Rattle.published.proofs.Records.{earlier, now, proposal-from}
 use Rattle.kinds.specs.declared.Step as kinds
 use Rattle.kinds.specs.Stand.{stepOf}
 use Rattle.runtext.specs.declared.Line.{Line}

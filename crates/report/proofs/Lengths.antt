@@ -3,13 +3,12 @@
 use Prim.Native.Nat.{ℕ, zero, suc, _+_, _-_, _*_, _≤_, _<_}
 use native.Mathlib.Omega.{arith}
 use mathlib.Core.Bool.{Bool, true, false, cond}
-use mathlib.Core.List.{List, [], _∷_, _++_, map}
+use mathlib.Core.List.{List, [], _∷_, map}
 use mathlib.Core.Logic.{⊎-elim}
-use mathlib.Core.Path.{_≡_, refl, sym, ap, _∙_}
-use lib.Dec.{eqb}
+use mathlib.Core.Path.{_≡_, refl, ap, _∙_}
 use lib.ListN.{length, length-append, length-map}
 use Rattle.published.specs.Rounds.{Run, Bench, newRun, newBench, isFresh, put, upTo, Step, Answer, refuse, done, step}
-use Rattle.published.proofs.Tests.{split, cond-ind}
+use Rattle.published.proofs.Tests.{split}
 use Rattle.published.proofs.Updates.{put-ind}
 use Rattle.published.proofs.Checks.{refusal-range}
 use Rattle.published.proofs.Moves.{Outcome, refused, moved, step-outcome}
@@ -20,9 +19,10 @@ use Rattle.runtext.specs.declared.Line.{Line}
 use Rattle.runtext.specs.declared.Line.the-variants.{Does, Malformed}
 use Rattle.runtext.specs.Spelling.{digits, stepText}
 use Rattle.runtext.specs.Storing.{lead, low}
-use Rattle.runtext.specs.Text.{inFront, linesOf}
+use Rattle.runtext.specs.Text.{linesOf}
 use Rattle.runtext.specs.Reading.{lineOf, readText}
 use Rattle.runtext.proofs.Places.{le-or-lt}
+use Rattle.runtext.proofs.LineBytes.{bytesIn, lines-few, lines-bytes}
 use Rattle.runtext.proofs.Decimals.{lead-none, lead-some, digits-low, digits-length, small-length}
 use Rattle.runtext.proofs.Theorems.{line-writes-back}
 use Rattle.report.specs.Report.{answerTo, answersFrom, runAfter, answerLine, answerLines, lastRound, benchLine, benchLines, refusedIn, totals, reportFor, reportOf}
@@ -156,33 +156,6 @@ step-long (Fail b) = omega (arith, digits-length (b .0))
 step-long (Turn b) = omega (arith, digits-length (b .0))
 step-long (Arrive b f) = simp length-append (omega (arith, digits-length (b .0)))
 step-long (Notice b f) = simp length-append (omega (arith, digits-length (b .0)))
-
--- the bytes of lines, each with one behind it
-bytesIn : List (List ℕ) → ℕ
-bytesIn [] = 0
-bytesIn (l ∷ ls) = suc (length l) + bytesIn ls
-
-front-few : (c : ℕ) (ls : List (List ℕ)) (n : ℕ) → length ls ≤ n → length (inFront c ls) ≤ suc n
-front-few c [] n h = omega arith
-front-few c (l ∷ ls) n h = omega arith
-
-lines-few : (text : List ℕ) → length (linesOf text) ≤ length text
-unfolding linesOf
-lines-few [] = omega arith
-lines-few (c ∷ l) =
-    let h = lines-few l in
-    cond-ind (λ (z : List (List ℕ)). length z ≤ suc (length l)) (eqb c 10) ([] ∷ linesOf l) (inFront c (linesOf l)) (λ e. omega arith) (λ e. front-few c (linesOf l) (length l) h)
-
-lines-bytes : (text : List ℕ) → bytesIn (linesOf text) ≤ length text + 1
-unfolding linesOf bytesIn
-lines-bytes [] = omega arith
-lines-bytes (c ∷ l) =
-    let h = lines-bytes l in
-    cond-ind (λ (z : List (List ℕ)). bytesIn z ≤ suc (length l) + 1) (eqb c 10) ([] ∷ linesOf l) (inFront c (linesOf l)) (λ e. omega arith) (λ e. grown (linesOf l) h)
-  where
-    grown : (ls : List (List ℕ)) → bytesIn ls ≤ length l + 1 → bytesIn (inFront c ls) ≤ suc (length l) + 1
-    grown [] g = omega arith
-    grown (k ∷ ks) g = omega arith
 
 steps-take : (ls : List (List ℕ)) → length ls + 17 * stepsIn (map (lineOf 16) ls) ≤ bytesIn ls
 unfolding stepsIn bytesIn

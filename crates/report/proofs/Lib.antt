@@ -1,4 +1,3 @@
-pub mod Storing
 pub mod AnswerLines
 pub mod BenchLines
 pub mod TotalsLine

@@ -1,15 +1,14 @@
 -- A text played line by line: what is answered so far, and what is still to come. Assumes nothing.
-use Prim.Native.Nat.{ℕ, suc, _+_, _-_, _≤_, _<_}
+use Prim.Native.Nat.{ℕ, _+_, _-_, _≤_, _<_}
 use native.Mathlib.Omega.{arith}
 use native.Mathlib.Numerals.{add-one}
-use mathlib.Core.Bool.{true, false, cond}
-use mathlib.Core.List.{List, [], _∷_, _++_, map, append-assoc, append-nil}
+use mathlib.Core.List.{List, [], _∷_, _++_, append-assoc, append-nil}
 use mathlib.Core.Path.{_≡_, refl, sym, ap, _∙_}
 use lib.Dec.{ltb}
-use lib.ListN.{length, getD, set, take, drop, length-set, drop-of-length-le}
+use lib.ListN.{length, set, take, drop, length-set, drop-of-length-le}
 use lib.Seq.{take-suc-set}
 use borrow.Author.Tests.{ltb-true, ltb-false}
-use Rattle.published.specs.Rounds.{Run, newRun, Answer, refuse, step, upTo}
+use Rattle.published.specs.Rounds.{Run, newRun, refuse}
 use Rattle.published.proofs.Tests.{clash, split}
 use Rattle.kinds.specs.declared.Step.{Step}
 use Rattle.kinds.specs.Stand.{stepOf}
@@ -20,7 +19,6 @@ use Rattle.tables.specs.Meets.{Links}
 use Rattle.tables.proofs.Theorems.{empty-sound, empty-run, promise-links}
 use Rattle.runtext.specs.declared.Line.{Line}
 use Rattle.runtext.specs.declared.Line.the-variants.{Does, Malformed}
-use Rattle.runtext.specs.declared.Read.{Read}
 use Rattle.runtext.specs.declared.Read.the-variants.{Next, End}
 use Rattle.runtext.specs.Text.{linesOf}
 use Rattle.runtext.specs.Reading.{lineOf, readText, lineAt, nextAt, readLineOf}

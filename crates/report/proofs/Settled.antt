@@ -1,20 +1,19 @@
 -- What the promise of the report function comes to: the answer and every byte of the room. Assumes nothing.
-use Prim.Native.Nat.{ℕ, suc, _+_, _≤_, _<_}
+use Prim.Native.Nat.{ℕ, _≤_}
 use native.Mathlib.Omega.{arith}
-use mathlib.Core.Bool.{Bool, true, false, cond}
-use mathlib.Core.List.{List, [], _∷_}
+use mathlib.Core.List.{List}
 use mathlib.Core.Path.{_≡_, refl, sym, ap, _∙_}
 use lib.Dec.{eqb, ltb}
-use lib.ListN.{length, getD, set, take}
-use lib.Seq.{sets, getD-set-other, length-sets}
+use lib.ListN.{length, getD, take}
+use lib.Seq.{sets, length-sets}
 use borrow.Author.Tests.{eq-eqb, ne-eqb, eqb-true, eqb-false, ltb-false, le-ltb}
 use Rattle.published.proofs.Tests.{clash, split}
+use Rattle.runtext.proofs.Puts.{front, past-sets}
 use Rattle.report.specs.declared.Reported.{Reported}
 use Rattle.report.specs.declared.Reported.the-variants.{Length, Refused}
 use Rattle.report.specs.Report.{reportOf}
 use Rattle.report.specs.Reported.{numberOf, lengthOf, numberFor, lengthFor, roomAfter, Reports}
 use Rattle.report.proofs.Lengths.{report-some, report-short}
-use Rattle.report.proofs.Reports.{front}
 
 -- ---- by the number
 
@@ -67,10 +66,6 @@ pub report-settles : {text room a a′ : List ℕ} {r r′ : Reported} → Repor
 report-settles {text} {room} {r = r} {r′} p q = (same-answer text room r r′ (p .number) (p .bytes) (q .number) (q .bytes), p .held ∙ sym (q .held))
 
 -- ---- the room
-
-past-sets : (w l : List ℕ) (at i : ℕ) → at + length w ≤ i → getD (sets l at w) i 0 ≡ getD l i 0
-past-sets [] l at i h = refl
-past-sets (b ∷ w) l at i h = past-sets w (set l at b) (suc at) i (omega arith) ∙ getD-set-other l at i b 0 (λ e. omega arith)
 
 module _ {text room a : List ℕ} {r : Reported} (p : Reports text room r a) where
   pub refused-keeps : (numberOf r ≡ 0 → ⊥) → a ≡ room

@@ -1,17 +1,16 @@
 -- What is proved of the report: what is promised settles everything, nothing is written on a refusal, all decisions of a report agree, the
 -- whole case of document 01, and how long a report can be. Each statement stands below its words, the proofs are in the other files.
 -- Assumes nothing.
-use Prim.Native.Nat.{ℕ, _≤_, _<_}
-use native.Mathlib.Omega.{arith}
+use Prim.Native.Nat.{ℕ, _≤_}
 use mathlib.Core.List.{List}
-use mathlib.Core.Path.{_≡_, refl, sym, ap, _∙_}
+use mathlib.Core.Path.{_≡_}
 use lib.ListN.{length, getD, take}
-use Rattle.published.specs.Rounds.{Run, newRun, chosen}
+use Rattle.published.specs.Rounds.{newRun, chosen}
 use Rattle.runtext.specs.Reading.{readText}
 use Rattle.report.specs.declared.Reported.{Reported}
 use Rattle.report.specs.declared.Reported.the-variants.{Length}
 use Rattle.report.specs.Report.{runAfter, reportOf}
-use Rattle.report.specs.Reported.{numberOf, lengthOf, numberFor, lengthFor, roomAfter, Reports}
+use Rattle.report.specs.Reported.{numberOf, lengthOf, numberFor, lengthFor, Reports}
 use Rattle.report.proofs.Decided as decided
 use Rattle.report.proofs.Decided.{Gave}
 use Rattle.report.proofs.Lengths as lengths

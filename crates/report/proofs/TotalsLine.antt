@@ -1,10 +1,9 @@
 -- The report's last line: how the answers not 0 are counted, and how the line is stored. Assumes nothing.
-use Prim.Native.Nat.{ℕ, suc, _+_, _≤_, _<_}
+use Prim.Native.Nat.{ℕ, _+_, _≤_, _<_}
 use native.Mathlib.Omega.{arith}
-use native.Mathlib.Nat.{add-zero}
-use mathlib.Core.Bool.{cond, true, false}
+use mathlib.Core.Bool.{cond}
 use mathlib.Core.List.{List, [], _∷_, _++_}
-use mathlib.Core.Path.{_≡_, refl, sym, ap, _∙_}
+use mathlib.Core.Path.{_≡_, refl}
 use lib.Dec.{eqb}
 use lib.ListN.{length, getD, drop, length-append, drop-of-length-le}
 use Rattle.published.proofs.Tests.{cond-ind}
@@ -12,8 +11,8 @@ use Rattle.runtext.specs.Spelling.{ascii, digits}
 use Rattle.runtext.specs.Stored.{Stored}
 use Rattle.runtext.proofs.Places.{cut}
 use Rattle.runtext.proofs.Decimals.{digits-length}
+use Rattle.runtext.proofs.Puts.{Put, put-then, put-last}
 use Rattle.report.specs.Report.{refusedIn, totals}
-use Rattle.report.proofs.Storing.{Put, put-then, put-last}
 
 -- ---- the count
 

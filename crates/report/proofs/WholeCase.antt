@@ -1,19 +1,14 @@
 -- Document 01's whole case: the report of its input is its output, byte for byte, by computation.
-use Prim.Native.Nat.{ℕ, zero, suc}
-use Prim.Native.String.{String}
+use Prim.Native.Nat.{ℕ}
 use mathlib.Core.Path.{_≡_, refl}
-use mathlib.Core.List.{List, [], _∷_, _++_, map}
+use mathlib.Core.List.{List, [], _∷_}
 use Rattle.published.specs.Rounds.{newRun, newBench, step, bit, member, every, worldOf, everyIn, within, put, find, hasOut, viewOf, got, see, agrees, isAwaited, isHeard, decides, decidesOn, settled, settledOn, nextWorld, heardOn, lesser, nextValue, leastOn, inState, inRound, sending, taking, noticing, choosing, entering, parting, deciding, advancing, turned, leaving, isBench, isFresh, isRunning, isFailed, isGone, hasStarted, startedWith, hasAll, inAll, waiting, some, takingFirst, allows, checks, after, refuse, done, judge}
 use Rattle.kinds.specs.Stand.{stepOf}
-use Rattle.runtext.specs.Spelling.{ascii, digits, leads}
+use Rattle.runtext.specs.Spelling.{digits, leads}
 use Rattle.runtext.specs.Text.{linesOf}
 use Rattle.runtext.specs.Reading.{isPrefix, digitAt, moreDigits, numberAt, fieldAt, memberAt, membersAt, worldAt, keyOf, rareVerbAt, verbAt, startAt, fromAt, restAt, stepAt, lineOf, readText}
+use Rattle.runtext.proofs.Examples.{textOf}
 use Rattle.report.specs.Report.{answerTo, answersFrom, runAfter, answerLine, answerLines, stateText, lastRound, valueText, benchLine, benchLines, refusedIn, totals, reportFor, reportOf}
-
--- lines, each ended by byte 10
-abbrev pub textOf : List String → List ℕ
-textOf [] = []
-textOf (s ∷ l) = ascii s ++ (10 ∷ textOf l)
 
 abbrev pub input : List ℕ
 input = textOf (

@@ -1,7 +1,7 @@
 -- The report of a run text, as document 01 says under 'Run text': how lines are answered, and what is printed of the answers and of the run.
 -- This file is to be believed. The run is that of `published`, for 16 benches and 96 rounds.
 use Prim.Native.Nat.{ℕ, zero, suc, _+_}
-use mathlib.Core.Bool.{Bool, true, false, cond}
+use mathlib.Core.Bool.{cond}
 use mathlib.Core.List.{List, [], _∷_, _++_}
 use lib.Dec.{eqb}
 use lib.ListN.{length}

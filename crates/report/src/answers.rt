@@ -1,15 +1,28 @@
 // One line for each line of the text: its number from 1, and the answer.
 ghost use mathlib.Core.Path.{_≡_};
 ghost use Prim.Native.Nat.{_+_, _≤_};
+ghost use lib.Dec.{leb};
 ghost use lib.ListN.{length};
 ghost use Rattle.runtext.specs.Stored.{Stored};
 ghost use Rattle.report.specs.Report.{answerLine, answerLines};
+use runtext::answer::put_answer;
 use runtext::bytes::put_bytes;
 use runtext::decimal::number_length;
-use runtext::decimal::put_field;
+
+// Whether the room holds the lines of the answers and n bytes behind them. No line is longer than 34 bytes, so that they are measured
+// for a short room alone.
+pub(crate) fn room_for(room: &[u8], answers: &[u8], n: usize) -> bool
+    requires { ⌜ (length (now answers) ≤ 65536) × (n ≤ 1108) ⌝ }
+    ensures { λ r. ⌜ r ≡ leb (length (answerLines 1 (now (answers .entry))) + n) (length (now (room .entry))) ⌝ }
+{
+    if 34 * answers.len() + n <= room.len() {
+        return true;
+    }
+    answers_length(answers) + n <= room.len()
+}
 
 // How many bytes the lines of the answers have.
-pub(crate) fn answers_length(answers: &[u8]) -> usize
+fn answers_length(answers: &[u8]) -> usize
     requires { ⌜ length (now answers) ≤ 65536 ⌝ }
     ensures { λ r. ⌜ r ≡ length (answerLines 1 (now (answers .entry))) ⌝ }
 {
@@ -47,7 +60,6 @@ fn store_answer(room: &mut [u8], at: usize, line: u32, answer: u8) -> usize
     requires { ⌜ at + length (answerLine line answer) ≤ length (now room) ⌝ }
     ensures { λ r. ⌜ Stored (now (room .entry)) at (answerLine line answer) r (now (room .exit)) ⌝ }
 {
-    let a = put_field(room, at, b"line=", line);
-    let b = put_field(room, a, b" answer=", answer as u32);
-    put_bytes(room, b, b"\n")
+    let a = put_answer(room, at, line, answer as u32);
+    put_bytes(room, a, b"\n")
 }

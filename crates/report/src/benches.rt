@@ -1,5 +1,4 @@
 // One line for each bench that is not fresh, in rising number: state, last round sent or 0, decided value or `none`.
-ghost use mathlib.Core.Path.{_≡_};
 ghost use Prim.Native.Nat.{_+_, _≤_};
 ghost use lib.ListN.{length};
 ghost use Rattle.runtext.specs.Stored.{Stored, fitting};

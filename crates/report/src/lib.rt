@@ -1,5 +1,5 @@
 // A text played and its report, for a caller that lends the room. The text is read once and the report is written once: the answers
-// are kept, one byte a line, so that the report's length is known before its first byte is written.
+// are kept, one byte a line, so that the room is measured before its first byte is written.
 // The contracts cite specs/Report.antt, the report that document 01 wants, and specs/Reported.antt.
 ghost use mathlib.Core.Path.{_≡_};
 ghost use Rattle.report.specs.Reported.{Reports, lengthFor, roomAfter};
@@ -9,7 +9,7 @@ mod benches; // benches.rt: the benches' lines
 mod playing; // playing.rt: a text played
 mod totals; // totals.rt: the last line
 
-use answers::answers_length;
+use answers::room_for;
 use answers::store_answers;
 use benches::store_benches;
 use playing::play;
@@ -39,13 +39,11 @@ pub fn report(text: &[u8], room: &mut [u8]) -> Reported
     let mut rest = [0u8; 1108];
     let last = store_benches(&mut rest, &benches);
     let n = store_totals(&mut rest, last, answers);
-    let length = answers_length(answers) + n;
-    if room.len() < length {
+    if !room_for(room, answers, n) {
         return Reported::Refused(22);
     }
     let at = store_answers(room, answers);
-    put_bytes(room, at, &rest[..n]);
-    Reported::Length(length)
+    Reported::Length(put_bytes(room, at, &rest[..n]))
 }
 
 // The same for C: the report's length, or 0 of a refusal. No report has the length 0.

@@ -7,15 +7,14 @@ use native.Mathlib.Nat.{le-antisymm}
 use native.Mathlib.Numerals.{add-one}
 use lib.ListN.{getD}
 use borrow.Author.Tests.{lt-ltb, le-ltb, le-leb, lt-leb, eq-eqb, ne-eqb}
-use Rattle.kinds.specs.declared.Message.the-variants.{Round, Out}
+use Rattle.kinds.specs.declared.Message.the-variants.{Out}
 use Rattle.bench.specs.declared.Bench.{Bench}
 use Rattle.bench.specs.declared.Heard.{Heard}
 use Rattle.bench.specs.declared.Waiting.the-variants.{Next, Nothing}
-use Rattle.tables.specs.Lines.{waitingOf, silence, hears, withMessage, heardTo, heardOf}
+use Rattle.tables.specs.Lines.{message, waitingOf, silence, hears, withMessage, heardTo, heardOf}
 
 module _ (log : List ℕ) (n : ℕ) (o : Bool) (sent out : ℕ) where
-  pub waits-round : n < sent → n < 96
-      → Next (Round (record { round = record { 0 = n + 1 }; value = record { 0 = getD log n 0 }; world = getD log (n + 96) 0 })) ≡ waitingOf 96 log n o sent out
+  pub waits-round : n < sent → n < 96 → Next (message (n + 1) (getD log n 0) (getD log (n + 96) 0)) ≡ waitingOf 96 log n o sent out
   unfolding waitingOf
   waits-round a b = rw (lt-ltb n sent a, lt-ltb n 96 b) refl
 

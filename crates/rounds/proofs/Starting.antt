@@ -5,10 +5,10 @@ use mathlib.Core.List.{List, []}
 use Prim.Native.Nat.{ℕ, _<_, _≤_, suc-le-suc}
 use lib.ListN.{getD}
 use borrow.Author.Tests.{lt-ltb, le-ltb, not-true, not-false}
-use Rattle.kinds.specs.declared.Message.the-variants.{Round}
 use Rattle.bench.specs.Sets.{has}
 use Rattle.bench.specs.Changes.{inRound}
 use Rattle.tables.specs.Rows.{ofRow, rows}
+use Rattle.tables.specs.Lines.{message}
 use Rattle.tables.specs.Steps.{Acts, acted, sentOf, leftOutAt, leavesOut, shutOutAt, shutsOut, startAt}
 use Rattle.rounds.proofs.Moving.{refuses, word-eq, word-ne, word-above, word-within}
 
@@ -65,7 +65,7 @@ module _ (t l : List (List ℕ)) (v w k s : ℕ) (is-s : s ≡ rows 16 t k .stat
             start-shut e = refuses (rw (word-eq is-s 0 fresh, le-ltb 65535 v slot, lt-ltb w 65536 (suc-le-suc below), sym is-q ∙ not-false q inside, sym is-o ∙ whole, sym is-x ∙ e) refl)
 
             pub start-done : (t′ l′ : List (List ℕ)) → x ≡ false
-                → Acts 0 t′ l′ (acted (sentOf 16 96 t l k (inRound 1 (record { 0 = v }) w (rows 16 t k)) (Round (record { round = record { 0 = 1 }; value = record { 0 = v }; world = w }))))
+                → Acts 0 t′ l′ (acted (sentOf 16 96 t l k (inRound 1 (record { 0 = v }) w (rows 16 t k)) (message 1 v w)))
                 → Acts 0 t′ l′ (startAt 16 96 t l v w k)
             unfolding startAt
             start-done t′ l′ e d = rw (word-eq is-s 0 fresh, le-ltb 65535 v slot, lt-ltb w 65536 (suc-le-suc below), sym is-q ∙ not-false q inside, sym is-o ∙ whole, sym is-x ∙ e) d

@@ -1,10 +1,10 @@
 -- What a turn sends has room in the log, and one law for each way through a turn over the tables. Assumes nothing.
 use mathlib.Core.Path.{_≡_, refl, sym, ap, _∙_, subst}
 use mathlib.Core.List.{List}
-use Prim.Native.Nat.{ℕ}
+use Prim.Native.Nat.{ℕ, _<_}
 use native.Mathlib.Omega.{arith}
 use lib.Dec.{eqb, ltb}
-use borrow.Author.Tests.{ltb-true}
+use borrow.Author.Tests.{ltb-true, ne-eqb}
 use Rattle.published.proofs.Tests.{cond-ind}
 use Rattle.kinds.specs.declared.SlotNo.{SlotNo}
 use Rattle.kinds.specs.declared.Message.{Message}
@@ -14,39 +14,41 @@ use Rattle.bench.specs.declared.Turned.{Turned}
 use Rattle.bench.specs.declared.Answer.{Answer}
 use Rattle.bench.specs.declared.Answer.the-variants.{Decided, Went, Refused}
 use Rattle.bench.specs.Changes.{inRound, choosing}
-use Rattle.bench.specs.Turns.{awaitsOf, forbidsOf, goOnOf, turnOf}
+use Rattle.bench.specs.Turns.{awaitsOf, forbidsOf, refuses, goOnOf, concludes, turnOf}
 use Rattle.tables.specs.Rows.{rows}
 use Rattle.tables.specs.Lines.{heardOf}
 use Rattle.tables.specs.Steps.{Acts, acted, sentOf, turnBy, turnOn, turnAt}
 use Rattle.rounds.specs.Sending.{HasRoom, Keeps}
-use Rattle.rounds.proofs.Moving.{refuses}
+use Rattle.rounds.proofs.Moving as moving
 
 abbrev Sends : Answer → Type 0
 Sends (Decided v m) = HasRoom m
 Sends (Went m) = HasRoom m
 Sends (Refused n) = Unit {0}
 
+-- by cases on a turn's answer
+turn-ind : (b : Bench) (h : Heard) (P : Turned → Type 0) → P (refuses b 3) → P (refuses b 11) → P (refuses b 12) → P (concludes b)
+    → (b .round .0 < 96 → P (goOnOf 16 b h)) → P (turnOf 16 96 b h)
+unfolding turnOf
+turn-ind b h P p₃ p₁₁ p₁₂ d g =
+    cond-ind P (eqb (b .state) 1) _ _
+    (λ s. cond-ind P (awaitsOf 16 b h) _ _ (λ a. p₁₁)
+    (λ a. cond-ind P (forbidsOf 16 b h) _ _
+    (λ f. cond-ind P (ltb (b .round .0) 96) _ _ (λ e. g (ltb-true (b .round .0) 96 e)) (λ e. p₁₂))
+    (λ f. d)))
+    (λ s. p₃)
+
 sends : (b : Bench) (h : Heard) → Sends (turnOf 16 96 b h .answer)
-unfolding turnOf goOnOf inRound
-sends b h =
-    cond-ind (λ (r : Turned). Sends (r .answer)) (eqb (b .state) 1) _ _
-    (λ s. cond-ind (λ (r : Turned). Sends (r .answer)) (awaitsOf 16 b h) _ _ (λ a. tt)
-    (λ a. cond-ind (λ (r : Turned). Sends (r .answer)) (forbidsOf 16 b h) _ _
-    (λ f. cond-ind (λ (r : Turned). Sends (r .answer)) (ltb (b .round .0) 96) _ _ (λ e. omega (arith, ltb-true (b .round .0) 96 e)) (λ e. tt))
-    (λ f. tt)))
-    (λ s. tt)
+unfolding goOnOf inRound
+sends b h = turn-ind b h (λ r. Sends (r .answer)) tt tt tt tt (λ e. omega arith)
 
 keeps : (b : Bench) (h : Heard) → Keeps (turnOf 16 96 b h .bench) b
-unfolding turnOf goOnOf inRound choosing
+unfolding goOnOf inRound choosing
 keeps b h =
     let k : Keeps b b = record { outs = refl; noticed = refl; sent = refl; out = refl; taken = refl } in
-    let P : Turned → Type 0 = λ r. Keeps (r .bench) b in
-    cond-ind P (eqb (b .state) 1) _ _
-    (λ s. cond-ind P (awaitsOf 16 b h) _ _ (λ a. k)
-    (λ a. cond-ind P (forbidsOf 16 b h) _ _
-    (λ f. cond-ind P (ltb (b .round .0) 96) _ _ (λ e. record { outs = refl; noticed = refl; sent = refl; out = refl; taken = refl }) (λ e. k))
-    (λ f. record { outs = refl; noticed = refl; sent = refl; out = refl; taken = refl })))
-    (λ s. k)
+    turn-ind b h (λ r. Keeps (r .bench) b) k k k
+    (record { outs = refl; noticed = refl; sent = refl; out = refl; taken = refl })
+    (λ e. record { outs = refl; noticed = refl; sent = refl; out = refl; taken = refl })
 
 module _ (b : Bench) (h : Heard) (r : Turned) (is-r : r ≡ turnOf 16 96 b h) where
   -- what is handed back is still the bench that was asked
@@ -74,4 +76,8 @@ module _ (b : Bench) (h : Heard) (r : Turned) (is-r : r ≡ turnOf 16 96 b h) wh
 
     pub turn-refused : (n : ℕ) → r .answer ≡ Refused n → Acts n t l (turnAt 16 96 t l k)
     unfolding turnBy
-    turn-refused n e = refuses (turned ∙ (rw e refl))
+    turn-refused n e = moving.refuses (turned ∙ (rw e refl))
+
+pub turn-not-running : (t l : List (List ℕ)) (k : ℕ) {s : ℕ} → s ≡ rows 16 t k .state → (s ≡ 1 → ⊥) → Acts 3 t l (turnAt 16 96 t l k)
+unfolding turnAt turnOn turnOf turnBy
+turn-not-running t l k e n = moving.refuses (rw (ne-eqb (rows 16 t k .state) 1 (λ z. n (e ∙ z))) refl)

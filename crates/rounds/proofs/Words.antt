@@ -4,8 +4,7 @@ use mathlib.Core.Path.{_≡_, refl, sym, ap, _∙_}
 use mathlib.Core.List.{List, [], _∷_}
 use Prim.Native.Nat.{ℕ, zero, suc, _+_, _%_, _^_, _<_, suc-le-suc}
 use native.Mathlib.Omega.{arith}
-use lib.ListN.{length, getD, drop, set, drop-of-length-le, length-set}
-use lib.Seq.{drop-cons, set-set, getD-set-same}
+use lib.ListN.{length, getD, set, length-set}
 use lib.Bits.{bitOr}
 use Rattle.kinds.specs.declared.RoundMessage.{RoundMessage}
 use Rattle.kinds.specs.declared.Message.{Message}
@@ -15,7 +14,7 @@ use Rattle.bench.specs.Changes.{takeOf, takenOf, outOf, noticeOf, inState, sent
 use Rattle.bench.proofs.Members.{only-small}
 use Rattle.tables.specs.Rows.{from, ofRow, rowOf, rows}
 use Rattle.tables.specs.Steps.{putAt}
-use Rattle.tables.proofs.Rows.{from-all}
+use Rattle.tables.proofs.Rows.{from-all, put-word}
 use Rattle.rounds.specs.Sending.{Keeps, ownAt}
 
 length-from : (l : List ℕ) (i n : ℕ) → length (from l i n) ≡ n
@@ -75,10 +74,6 @@ there [] k n e = absurd (omega arith)
 there (x ∷ t) zero n e = omega arith
 there (x ∷ t) (suc k) n e = suc-le-suc (there t k n e)
 
--- one word more of row k
-next : (t : List (List ℕ)) (k : ℕ) → k < length t → (u : List (List ℕ)) (r : List ℕ) → u ≡ set t k r → (i x : ℕ) → putAt u k i x ≡ set t k (set r i x)
-next t k h u r e i x = rw e (set-set t k r _ ∙ ap (λ (q : List ℕ). set t k (set q i x)) (getD-set-same t k r [] h))
-
 -- the same in the table
 module _ (N : ℕ) (t : List (List ℕ)) (k : ℕ) where
   pub taken-is : (j : ℕ) → j < N → getD (getD t k []) (9 + j) 0 ≡ getD (rows N t k .taken) j 0
@@ -106,12 +101,12 @@ module _ (N : ℕ) (t : List (List ℕ)) (k : ℕ) where
 
       own-written : ownAt t k b ≡ set t k (own b (getD t k []))
       unfolding ownAt own
-      own-written = next t k at _ _ (next t k at _ _ (next t k at _ _ (next t k at _ _ refl 1 (b .round .0)) 2 (b .value .0)) 3 (b .world)) 8 (b .chose)
+      own-written = put-word t k at _ _ (put-word t k at _ _ (put-word t k at _ _ (put-word t k at _ _ refl 1 (b .round .0)) 2 (b .value .0)) 3 (b .world)) 8 (b .chose)
 
       module _ (u : List (List ℕ)) (is-u : u ≡ ownAt t k b) where
         pub puts-spoken : (n : ℕ) → putAt (putAt u k 6 n) k (9 + k) n ≡ set t k (rowOf N (sentTo n (takenOf b k n)))
-        puts-spoken n = next t k at _ _ (next t k at _ _ (is-u ∙ own-written) 6 n) (9 + k) n ∙ ap (set t k) (spoken-words N (getD t k []) full b kept k n)
+        puts-spoken n = put-word t k at _ _ (put-word t k at _ _ (is-u ∙ own-written) 6 n) (9 + k) n ∙ ap (set t k) (spoken-words N (getD t k []) full b kept k n)
 
         pub puts-parted : (x : ℕ) → k < 16 → x ≡ 2 ^ k % 2 ^ 32 → putAt (putAt u k 4 (bitOr (b .outs) x)) k 7 1 ≡ set t k (rowOf N (sentOut (outOf b k)))
         puts-parted x h e =
-            rw (e ∙ only-small k (omega arith)) (next t k at _ _ (next t k at _ _ (is-u ∙ own-written) 4 (bitOr (b .outs) (2 ^ k))) 7 1 ∙ ap (set t k) (parted-words N (getD t k []) full b kept k))
+            rw (e ∙ only-small k (omega arith)) (put-word t k at _ _ (put-word t k at _ _ (is-u ∙ own-written) 4 (bitOr (b .outs) (2 ^ k))) 7 1 ∙ ap (set t k) (parted-words N (getD t k []) full b kept k))

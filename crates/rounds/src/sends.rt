@@ -1,9 +1,10 @@
 // A bench sends: its message stands in its log, and it has it at once.
 
 ghost use Prim.Native.Nat.{_<_};
-ghost use Rattle.kinds.specs.declared.Message.the-variants.{Round, Out};
+ghost use Rattle.kinds.specs.declared.Message.the-variants.{Out};
 ghost use Rattle.bench.specs.Changes.{inState, inRound};
 ghost use Rattle.tables.specs.Rows.{rows};
+ghost use Rattle.tables.specs.Lines.{message};
 ghost use Rattle.tables.specs.Steps.{Acts, acted, sentOf};
 ghost use Rattle.rounds.specs.Sending.{HasRoom, Keeps};
 use crate::rows::Benches;
@@ -39,7 +40,7 @@ pub(crate) fn send(benches: &mut Benches, logs: &mut Logs, k: usize, b: Bench, m
 // The bench at k runs in round 1 and sends that round's message.
 pub(crate) fn begin(benches: &mut Benches, logs: &mut Logs, k: usize, value: SlotNo, world: u32)
     requires { ⌜ k < 16 ⌝ }
-    ensures { λ _. ⌜ Acts 0 (now (benches .exit)) (now (logs .exit)) (acted (sentOf 16 96 (now (benches .entry)) (now (logs .entry)) k (inRound 1 value world (rows 16 (now (benches .entry)) k)) (Round (record { round = record { 0 = 1 }; value = value; world = world })))) ⌝ }
+    ensures { λ _. ⌜ Acts 0 (now (benches .exit)) (now (logs .exit)) (acted (sentOf 16 96 (now (benches .entry)) (now (logs .entry)) k (inRound 1 value world (rows 16 (now (benches .entry)) k)) (message 1 (value .0) world))) ⌝ }
 {
     let round = RoundNo(1);
     let mut b = load(&*benches, k);

@@ -6,10 +6,22 @@ use crate::lines::heard_by;
 use crate::rows::Benches;
 use crate::rows::Logs;
 use crate::rows::load;
+use crate::rows::state_at;
 use crate::sends::send;
 use bench::Answer;
 
+// The state is looked at first, since a bench that is not running needs no more of its row.
 pub(crate) fn turn_at(benches: &mut Benches, logs: &mut Logs, k: usize) -> u8
+    requires { ⌜ k < 16 ⌝ }
+    ensures { λ r. ⌜ Acts r (now (benches .exit)) (now (logs .exit)) (turnAt 16 96 (now (benches .entry)) (now (logs .entry)) k) ⌝ }
+{
+    if state_at(&*benches, k) != 1 {
+        return 3;
+    }
+    whole_turn_at(&mut *benches, &mut *logs, k)
+}
+
+fn whole_turn_at(benches: &mut Benches, logs: &mut Logs, k: usize) -> u8
     requires { ⌜ k < 16 ⌝ }
     ensures { λ r. ⌜ Acts r (now (benches .exit)) (now (logs .exit)) (turnAt 16 96 (now (benches .entry)) (now (logs .entry)) k) ⌝ }
 {

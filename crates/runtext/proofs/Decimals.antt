@@ -1,16 +1,18 @@
 -- Numbers written: the digits of n, by its parts as the code stores them, and from n / 10 with one digit more. Assumes nothing.
-use Prim.Native.Nat.{ℕ, suc, _+_, _-_, _*_, _/_, _%_, _≤_, _<_}
+use Prim.Native.Nat.{ℕ, suc, _+_, _*_, _/_, _%_, _≤_, _<_}
 use native.Mathlib.Omega.{arith}
 use mathlib.Core.Bool.{Bool, true, _&&_}
 use mathlib.Core.List.{List, [], _∷_, _++_, append-assoc, append-nil}
-use mathlib.Core.Logic.{_⊎_, ⊎-elim}
+use mathlib.Core.Logic.{⊎-elim}
 use mathlib.Core.Path.{_≡_, refl, sym, ap, _∙_, subst}
 use lib.Dec.{leb}
 use lib.ListN.{length, take, drop, take-append-drop, length-append}
 use borrow.Author.Tests.{le-leb, lt-leb, leb-true}
 use Rattle.published.proofs.Tests.{both, split}
 use Rattle.runtext.proofs.Places.{le-or-lt}
+use Rattle.runtext.proofs.Stores.{room-front, room-after, stored-then}
 use Rattle.runtext.specs.Spelling.{leads, digits}
+use Rattle.runtext.specs.Stored.{Stored}
 use Rattle.runtext.specs.Storing.{places, lead, high, low}
 
 pub lead-none : (p n : ℕ) → n < p → lead p n ≡ []
@@ -71,6 +73,21 @@ pub digits-large : (n : ℕ) → 10 ≤ n → n < 100000 → digits n ≡ digits
 digits-large n h t =
     let e : n / 10 * 10 + n % 10 ≡ n = omega arith in
     subst (λ (m : ℕ). digits m ≡ digits (n / 10) ++ ((48 + n % 10) ∷ [])) e (digits-snoc (n / 10) (n % 10) (omega arith) (omega arith) (omega arith))
+
+-- stored: first n / 10, then the last digit
+module _ (n : ℕ) (h : 10 ≤ n) (t : n < 100000) where
+  parts : digits n ≡ digits (n / 10) ++ digits (n % 10)
+  parts = digits-large n h t ∙ rw (digits-small (n % 10) (omega arith)) refl
+
+  pub parts-front : (at : ℕ) {m : ℕ} → at + length (digits n) ≤ m → at + length (digits (n / 10)) ≤ m
+  parts-front at r = room-front at (digits (n / 10)) (digits (n % 10)) (rw parts at r)
+
+  module _ {l l′ : List ℕ} {at a : ℕ} (s : Stored l at (digits (n / 10)) a l′) where
+    pub parts-last : at + length (digits n) ≤ length l → a + length (digits (n % 10)) ≤ length l′
+    parts-last r = room-after (digits (n % 10)) s (rw parts at r)
+
+    pub parts-stored : {l″ : List ℕ} {next : ℕ} → Stored l′ a (digits (n % 10)) next l″ → Stored l at (digits n) next l″
+    parts-stored q = rw parts (stored-then s q)
 
 -- ---- how many there are
 

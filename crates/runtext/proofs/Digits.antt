@@ -2,11 +2,14 @@
 use Prim.Native.Nat.{ℕ, zero, suc, _+_, _-_, _*_, _≤_, _<_}
 use native.Mathlib.Omega.{arith}
 use native.Mathlib.Numerals.{sub-one}
+use mathlib.Core.Bool.{cond}
 use mathlib.Core.List.{List}
-use mathlib.Core.Logic.{_⊎_, ⊎-elim}
-use mathlib.Core.Path.{_≡_, refl, sym, ap, _∙_}
+use mathlib.Core.Logic.{⊎-elim}
+use mathlib.Core.Path.{_≡_, refl, sym, ap, _∙_, subst}
+use lib.Dec.{eqb}
 use lib.ListN.{length, getD, List·getD-eq-default}
 use borrow.Author.Tests.{lt-ltb, le-ltb, le-leb, lt-leb, eq-eqb, ne-eqb}
+use Rattle.published.proofs.Tests.{split}
 use Rattle.runtext.proofs.Places.{le-or-lt}
 use Rattle.runtext.specs.declared.numbers.Found.{Found}
 use Rattle.runtext.specs.declared.numbers.Found.the-variants.{Got, Nothing}
@@ -112,3 +115,12 @@ module _ (text : List ℕ) (at : ℕ) {d : ℕ} (e : d ≡ digitAt text at) wher
   pub number-more : d < 10 → (d ≡ 0 → ⊥) → {r : Found} → r ≡ moreDigits 4 text (at + 1) d → r ≡ numberAt text at
   unfolding numberAt
   number-more h z q = q ∙ simp (← e, lt-ltb _ _ h, ne-eqb _ _ z)
+
+  -- in one, by how many digits may follow
+  module _ (h : d < 10) {n : ℕ} (q : n ≡ cond (eqb d 0) 0 4) where
+    pub number-room : d < below n
+    number-room = subst (λ (k : ℕ). d < below k) (sym q) (split (eqb d 0) (λ z. rw z (omega arith)) (λ z. rw z (omega arith)))
+
+    pub number-some : {r : Found} → r ≡ moreDigits n text (at + 1) d → r ≡ numberAt text at
+    unfolding numberAt
+    number-some p = p ∙ simp (← e, lt-ltb _ _ h, q)

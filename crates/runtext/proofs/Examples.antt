@@ -1,14 +1,19 @@
 -- Texts of document 01 and damaged ones, P8 among them, as one table: what the lines of each say. Assumes nothing.
 use Prim.Native.Nat.{ℕ}
+use Prim.Native.String.{String}
 use mathlib.Core.List.{List, [], _∷_, _++_, map}
 use mathlib.Core.Path.{_≡_, refl}
-use Rattle.kinds.specs.declared.Step.{Step}
 use Rattle.kinds.specs.declared.Step.the-variants.{Start, Abstain, Leave, Fail, Turn, Arrive, Notice}
 use Rattle.runtext.specs.declared.Line.{Line}
 use Rattle.runtext.specs.declared.Line.the-variants.{Does, Malformed}
 use Rattle.runtext.specs.Spelling.{ascii}
 use Rattle.runtext.specs.Text.{linesOf}
 use Rattle.runtext.specs.Reading.{isPrefix, digitAt, moreDigits, numberAt, fieldAt, memberAt, membersAt, worldAt, keyOf, rareVerbAt, verbAt, startAt, fromAt, restAt, stepAt, lineOf, readText}
+
+-- lines, each ended by byte 10
+abbrev pub textOf : List String → List ℕ
+textOf [] = []
+textOf (s ∷ l) = ascii s ++ (10 ∷ textOf l)
 
 -- a text and what its lines say
 pub data Row : Type 0 where

@@ -4,7 +4,7 @@ use native.Mathlib.Omega.{arith}
 use native.Mathlib.Nat.{zero-add}
 use native.Mathlib.Numerals.{add-one, sub-one}
 use mathlib.Core.List.{List, [], _∷_, _++_, append-assoc}
-use mathlib.Core.Logic.{_⊎_, ⊎-elim}
+use mathlib.Core.Logic.{⊎-elim}
 use mathlib.Core.Path.{_≡_, refl, sym, ap, _∙_}
 use lib.Dec.{lit<}
 use lib.ListN.{length, getD, length-append}
@@ -18,6 +18,7 @@ use Rattle.runtext.specs.Stored.{Stored}
 use Rattle.runtext.specs.Storing.{sepAt}
 use Rattle.runtext.specs.Reading.{numberAt, bitOf, memberAt, membersAt, worldAt}
 use Rattle.runtext.proofs.Places.{le-or-lt, byte-within}
+use Rattle.runtext.proofs.NumberTrip.{none-found}
 use Rattle.runtext.proofs.Decimals.{digits-length}
 use Rattle.runtext.proofs.Stores.{Left, left-start, left-step, left-end, left-room}
 
@@ -44,9 +45,6 @@ module _ (limit : ℕ) (text : List ℕ) (at last : ℕ) {n : Found} (p : n ≡ 
     unfolding memberAt
     member-got h k = rw (← p, q) (rw (lt-ltb last b h, le-leb b limit k) refl)
 
-none-got : {A : Type 0} {b next : ℕ} → Nothing ≡ Got b next → A
-none-got e = clash (cc)
-
 pub record MemberIs (limit : ℕ) (text : List ℕ) (at last b next : ℕ) : Type 0 where
   pub number : numberAt text at ≡ Got b next
   pub above : last < b
@@ -56,15 +54,15 @@ pub member-sound : (limit : ℕ) (text : List ℕ) (at last b next : ℕ) → me
 member-sound limit text at last b next got = go (numberAt text at) refl
   where
     go : (n : Found) → numberAt text at ≡ n → MemberIs limit text at last b next
-    go Nothing e = none-got (member-none limit text at last refl e ∙ got)
+    go Nothing e = none-found (member-none limit text at last refl e ∙ got)
     go (Got v n) e =
-        ⊎-elim (λ (low : v ≤ last). none-got (member-low limit text at last refl v n e low ∙ got))
+        ⊎-elim (λ (low : v ≤ last). none-found (member-low limit text at last refl v n e low ∙ got))
         (λ (up : last < v).
         ⊎-elim (λ (h : v ≤ limit).
         let same : Got v n ≡ Got b next = member-got limit text at last refl v n e up h ∙ got in
         let a : v ≡ b = cc in
         record { number = e ∙ same; above = omega arith; most = omega arith })
-        (λ (h : limit < v). none-got (member-high limit text at last refl v n e up h ∙ got))
+        (λ (h : limit < v). none-found (member-high limit text at last refl v n e up h ∙ got))
         (le-or-lt v limit))
         (le-or-lt v last)
 

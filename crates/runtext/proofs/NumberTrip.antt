@@ -3,7 +3,7 @@ use Prim.Native.Nat.{ℕ, zero, suc, _+_, _-_, _*_, _/_, _%_, _≤_, _<_}
 use native.Mathlib.Omega.{arith}
 use native.Mathlib.Numerals.{sub-one}
 use mathlib.Core.List.{List, [], _∷_, _++_, append-assoc}
-use mathlib.Core.Logic.{_⊎_, ⊎-elim}
+use mathlib.Core.Logic.{⊎-elim}
 use mathlib.Core.Path.{_≡_, refl, sym, ap, _∙_}
 use lib.ListN.{length, getD, drop, length-append}
 use borrow.Author.Tests.{le-leb, lt-leb}
@@ -121,7 +121,7 @@ stopped r text from at v n next h s stop got =
     let b : at ≡ next = cc in
     record { spans = rw (← a, ← b) s; small = omega (arith, below-most r) }
 
-none-found : {A : Type 0} {n next : ℕ} → Nothing ≡ Got n next → A
+pub none-found : {A : Type 0} {n next : ℕ} → Nothing ≡ Got n next → A
 none-found e = clash (cc)
 
 more-sound : (r : ℕ) (text : List ℕ) (from at v n next : ℕ) → 0 < v → v < below r → Spans text from (digits v) at → moreDigits r text at v ≡ Got n next → NumberIs text from n next

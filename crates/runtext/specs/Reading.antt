@@ -1,6 +1,6 @@
 -- How a text is read, place by place, in the way of the code. This file need not be believed: by `reads-iff-spelled` and `reads-in-turn`
 -- of proofs/Theorems.antt a line reads to a step exactly when it is the step's spelling, and reading gives the lines of `linesOf`.
-use Prim.Native.Nat.{ℕ, zero, suc, _+_, _-_, _*_, _^_}
+use Prim.Native.Nat.{ℕ, zero, suc, _+_, _-_, _*_, _^_, _<_}
 use mathlib.Core.Bool.{Bool, true, false, cond}
 use mathlib.Core.List.{List, [], _∷_, map}
 use lib.Dec.{leb, ltb, eqb}
@@ -29,6 +29,17 @@ unfoldable pub isPrefix : List ℕ → List ℕ → Bool
 isPrefix [] l = true
 isPrefix (k ∷ ks) [] = false
 isPrefix (k ∷ ks) (c ∷ l) = cond (eqb c k) (isPrefix ks l) false
+
+-- the first n bytes as one number, the first the lowest; and that each of them is a byte
+unfoldable pub word : ℕ → List ℕ → ℕ
+word zero l = 0
+word (suc n) [] = 0
+word (suc n) (c ∷ l) = c + 256 * word n l
+
+unfoldable pub Bytes : ℕ → List ℕ → Type 0
+Bytes zero l = Unit {0}
+Bytes (suc n) [] = Unit {0}
+Bytes (suc n) (c ∷ l) = (c < 256) × Bytes n l
 
 -- ---- numbers
 
@@ -115,6 +126,19 @@ startAt limit text at b =
 
 unfoldable pub fromAt : (BenchNo → BenchNo → Step) → List ℕ → ℕ → ℕ → StepFound
 fromAt step text at b = on Unspelled (fieldAt (ascii " from=") text at) (λ f end. Spelled (step (record { 0 = b }) (record { 0 = f })) end)
+
+-- a step with a sender is a notice or an arrive
+abbrev pub sending : Verb → BenchNo → BenchNo → Step
+sending verb.Notice = Notice
+sending verb.Start = Arrive
+sending verb.Abstain = Arrive
+sending verb.Leave = Arrive
+sending verb.Fail = Arrive
+sending verb.Turn = Arrive
+sending verb.Arrive = Arrive
+
+unfoldable pub senderAt : List ℕ → ℕ → Verb → ℕ → StepFound
+senderAt text at v b = fromAt (sending v) text at b
 
 unfoldable pub restAt : ℕ → List ℕ → ℕ → Verb → ℕ → StepFound
 restAt limit text at verb.Start b = startAt limit text at b

@@ -87,20 +87,95 @@ fn store_low(room: &mut [u8], at: usize, n: u32) -> usize
     d + 1
 }
 
+// Stores a number of one digit.
+fn store_digit(room: &mut [u8], at: usize, n: u32) -> usize
+    requires { ⌜ (n < 10) × (at + length (digits n) ≤ length (now room)) ⌝ }
+    ensures { λ r. ⌜ Stored (now (room .entry)) at (digits n) r (now (room .exit)) ⌝ }
+{
+    room[at] = 48 + n as u8;
+    at + 1
+}
+
+// A number of two digits.
+fn store_tens(room: &mut [u8], at: usize, n: u32) -> usize
+    requires { ⌜ (10 ≤ n) × (n < 100) × (at + length (digits n) ≤ length (now room)) ⌝ }
+    ensures { λ r. ⌜ Stored (now (room .entry)) at (digits n) r (now (room .exit)) ⌝ }
+{
+    let a = store_digit(room, at, n / 10);
+    store_digit(room, a, n % 10)
+}
+
+// A number of three digits.
+fn store_hundreds(room: &mut [u8], at: usize, n: u32) -> usize
+    requires { ⌜ (100 ≤ n) × (n < 1000) × (at + length (digits n) ≤ length (now room)) ⌝ }
+    ensures { λ r. ⌜ Stored (now (room .entry)) at (digits n) r (now (room .exit)) ⌝ }
+{
+    let a = store_tens(room, at, n / 10);
+    store_digit(room, a, n % 10)
+}
+
+// A number of four digits.
+fn store_thousands(room: &mut [u8], at: usize, n: u32) -> usize
+    requires { ⌜ (1000 ≤ n) × (n < 10000) × (at + length (digits n) ≤ length (now room)) ⌝ }
+    ensures { λ r. ⌜ Stored (now (room .entry)) at (digits n) r (now (room .exit)) ⌝ }
+{
+    let a = store_hundreds(room, at, n / 10);
+    store_digit(room, a, n % 10)
+}
+
+// A number of five digits.
+fn store_ten_thousands(room: &mut [u8], at: usize, n: u32) -> usize
+    requires { ⌜ (10000 ≤ n) × (n < 100000) × (at + length (digits n) ≤ length (now room)) ⌝ }
+    ensures { λ r. ⌜ Stored (now (room .entry)) at (digits n) r (now (room .exit)) ⌝ }
+{
+    let a = store_thousands(room, at, n / 10);
+    store_digit(room, a, n % 10)
+}
+
+// A number of any digits.
+fn store_long(room: &mut [u8], at: usize, n: u32) -> usize
+    requires { ⌜ at + length (digits n) ≤ length (now room) ⌝ }
+    ensures { λ r. ⌜ Stored (now (room .entry)) at (digits n) r (now (room .exit)) ⌝ }
+{
+    let last = store_high(room, at, n);
+    store_low(room, last, n)
+}
+
 // Stores n in decimal. Most numbers of a text have one digit, and hardly one has more than five.
 pub(crate) fn store_number(room: &mut [u8], at: usize, n: u32) -> usize
     requires { ⌜ at + length (digits n) ≤ length (now room) ⌝ }
     ensures { λ r. ⌜ Stored (now (room .entry)) at (digits n) r (now (room .exit)) ⌝ }
 {
     if n < 10 {
-        room[at] = 48 + n as u8;
-        return at + 1;
+        return store_digit(room, at, n);
+    }
+    if n < 100 {
+        return store_tens(room, at, n);
+    }
+    if n < 1000 {
+        return store_hundreds(room, at, n);
+    }
+    if n < 10000 {
+        return store_thousands(room, at, n);
     }
     if n < 100000 {
-        return store_low(room, at, n);
+        return store_ten_thousands(room, at, n);
     }
-    let last = store_high(room, at, n);
-    store_low(room, last, n)
+    store_long(room, at, n)
+}
+
+// The same of a number that hardly ever has more than two digits: they are stored without a call.
+pub(crate) fn store_short(room: &mut [u8], at: usize, n: u32) -> usize
+    requires { ⌜ at + length (digits n) ≤ length (now room) ⌝ }
+    ensures { λ r. ⌜ Stored (now (room .entry)) at (digits n) r (now (room .exit)) ⌝ }
+{
+    if n < 10 {
+        return store_digit(room, at, n);
+    }
+    if n < 100 {
+        return store_tens(room, at, n);
+    }
+    store_number(room, at, n)
 }
 
 // Stores a key and a number behind it.

@@ -8,6 +8,7 @@ use kinds::Step;
 pub mod bytes; // bytes.rt: fixed byte strings, and where a line ends
 pub mod numbers; // numbers.rt: numbers read
 pub mod decimal; // decimal.rt: numbers written
+pub mod answer; // answer.rt: a line's number and its answer written
 mod worlds; // worlds.rt: how a world is spelled
 mod reading; // reading.rt: a step's line read
 mod writing; // writing.rt: a step's line written

@@ -1,6 +1,8 @@
 // Numbers read: 1 to 5 digits, no leading zero.
 ghost use mathlib.Core.Path.{_≡_};
 ghost use Prim.Native.Nat.{_≤_, _<_};
+ghost use mathlib.Core.Bool.{cond};
+ghost use lib.Dec.{eqb};
 ghost use lib.ListN.{length};
 ghost use Rattle.runtext.specs.Reading.{digitAt, moreDigits, numberAt, fieldAt, below};
 use crate::bytes;
@@ -50,7 +52,17 @@ fn more_digits(text: &[u8], from: usize, first: u32, room: usize) -> Found
     }
 }
 
-// The number at a place: after a first 0 no digit may follow, after another at most 4.
+// How many digits may follow a first one: none after a 0.
+fn room_behind(first: u32) -> usize
+    ensures { λ r. ⌜ r ≡ cond (eqb first 0) 0 4 ⌝ }
+{
+    if first == 0 {
+        return 0;
+    }
+    4
+}
+
+// The number at a place.
 pub fn number_at(text: &[u8], at: usize) -> Found
     ensures { λ r. ⌜ r ≡ numberAt (now (text .entry)) at ⌝ }
 {
@@ -58,10 +70,7 @@ pub fn number_at(text: &[u8], at: usize) -> Found
     if 10 <= d {
         return Found::Nothing;
     }
-    if d == 0 {
-        return more_digits(text, at + 1, d, 0);
-    }
-    more_digits(text, at + 1, d, 4)
+    more_digits(text, at + 1, d, room_behind(d))
 }
 
 // A key at a place, and the number behind it.

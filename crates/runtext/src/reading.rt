@@ -2,11 +2,11 @@
 // is looked at twice, the second time for its end.
 ghost use mathlib.Core.Path.{_≡_};
 ghost use Prim.Native.Nat.{_≤_, _<_};
-ghost use lib.ListN.{length, drop};
+ghost use lib.ListN.{length};
 ghost use Rattle.runtext.specs.declared.Line.the-variants.{Malformed};
 ghost use Rattle.runtext.specs.declared.Read.the-variants.{Next};
 ghost use Rattle.runtext.specs.Spelling.{ascii};
-ghost use Rattle.runtext.specs.Reading.{verbAt, rareVerbAt, fieldAt, startAt, restAt, stepAt, nextAt, readLineOf};
+ghost use Rattle.runtext.specs.Reading.{verbAt, rareVerbAt, fieldAt, startAt, senderAt, restAt, stepAt, nextAt, readLineOf};
 use crate::Line;
 use crate::Read;
 use crate::bytes;
@@ -123,18 +123,20 @@ fn rest_at(text: &[u8], at: usize, verb: Verb, bench: u32, limit: u32) -> StepFo
         Verb::Leave => StepFound::Spelled(Step::Leave(BenchNo(bench)), at),
         Verb::Fail => StepFound::Spelled(Step::Fail(BenchNo(bench)), at),
         Verb::Turn => StepFound::Spelled(Step::Turn(BenchNo(bench)), at),
-        Verb::Arrive => {
-            let Found::Got(from, end) = from_at(text, at) else {
-                return StepFound::Unspelled;
-            };
-            StepFound::Spelled(Step::Arrive(BenchNo(bench), BenchNo(from)), end)
-        }
-        Verb::Notice => {
-            let Found::Got(from, end) = from_at(text, at) else {
-                return StepFound::Unspelled;
-            };
-            StepFound::Spelled(Step::Notice(BenchNo(bench), BenchNo(from)), end)
-        }
+        Verb::Arrive | Verb::Notice => sender_at(text, at, verb, bench),
+    }
+}
+
+// What follows the bench of a step with a sender.
+fn sender_at(text: &[u8], at: usize, verb: Verb, bench: u32) -> StepFound
+    ensures { λ r. ⌜ r ≡ senderAt (now (text .entry)) at verb bench ⌝ }
+{
+    let Found::Got(from, end) = from_at(text, at) else {
+        return StepFound::Unspelled;
+    };
+    match verb {
+        Verb::Notice => StepFound::Spelled(Step::Notice(BenchNo(bench), BenchNo(from)), end),
+        _ => StepFound::Spelled(Step::Arrive(BenchNo(bench), BenchNo(from)), end),
     }
 }
 

@@ -1,7 +1,7 @@
 -- A step of a script played on a ledger keeps its promise, by the promises of the ledger's own steps. Assumes nothing.
 use mathlib.Core.Path.{_≡_, refl, ap, sym, _∙_}
 use Prim.Native.Nat.{ℕ, zero, suc, _≤_, min}
-use mathlib.Core.Bool.{Bool, true, false, _&&_}
+use mathlib.Core.Bool.{Bool, true, false, _&&_, and-false}
 use mathlib.Core.List.{List, [], _++_, append-assoc}
 use native.Mathlib.Omega.{arith}
 use lib.ListN.{length, take, drop, length-take, take-append-drop}
@@ -36,10 +36,6 @@ unfolding laid
 plays-told l words out s t r words′ n e a is =
     let q = no-tags (bookOf l words) (stepIs s) e in
     rw is record { tells = a; handed-is = rw (n, and-false (eqb (t .number) 0)); count-is = rw q; out-is = rw q }
-  where
-    and-false : (b : Bool) → (b && false) ≡ false
-    and-false true = refl
-    and-false false = refl
 
 module _ (l : Ledger) (words out : List ℕ) (x : Step) (t : Told) (r : Played) (told : r ≡ record { number = t .number; count = 0; handed = false; ledger = t .ledger }) where
   pub play-join : (s : BenchNo) (f : SlotNo) → x ≡ script.Join s f → ((w : List ℕ) → Tells l w (book.join (s .0) (f .0)) t w) → Plays l words out x r words out

@@ -1,6 +1,5 @@
 // A ledger script: a line read, and a step played on a ledger. docs/LEDGER-SCRIPT.md is the format;
 // specs/Script.antt says what a line means and what playing it does.
-ghost use mathlib.Core.Path.{_≡_};
 use kinds::BenchNo;
 use kinds::SlotNo;
 use ledger::Ledger;

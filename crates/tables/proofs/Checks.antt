@@ -7,9 +7,10 @@ use Prim.Native.Nat.{ℕ, suc, _-_, _<_}
 use native.Mathlib.Omega.{arith}
 use lib.Dec.{eqb, leb, ltb}
 use lib.ListN.{drop}
-use borrow.Author.Tests.{eqb-false, ltb-true, ltb-false, le-leb, lt-leb, leb-true}
+use borrow.Author.Tests.{eqb-false, ltb-true, ltb-false, le-leb, lt-leb}
 use Rattle.published.specs.Rounds.{Run, Step, Check, needs, Answer, checks, after, judge, done, step, upTo, isBench}
 use Rattle.published.proofs.Tests.{both, split}
+use Rattle.published.proofs.Moves.{bench-in}
 use Rattle.tables.specs.Steps.{Act, refused, atBench, atBenches}
 use Rattle.tables.specs.Runs.{runOf}
 use Rattle.tables.specs.Sound.{Sound}
@@ -24,10 +25,7 @@ not-above a b = split (ltb a b)
 
 -- a bench of the run, and its place
 place : (N b : ℕ) → isBench N b ≡ true → (suc (b - 1) ≡ b) × (b - 1 < N)
-unfolding isBench
-place N b e =
-    let p = both (leb 1 b) (leb b N) e in let h₁ = leb-true 1 b (p .0) in let h₂ = leb-true b N (p .1) in
-    (omega arith, omega arith)
+place N b e = let h = bench-in N b e in (omega arith, omega arith)
 
 module _ (N R : ℕ) (t l : List (List ℕ)) (s : Sound N R t l) where
   abbrev run : Run

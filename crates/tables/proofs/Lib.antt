@@ -16,4 +16,3 @@ pub mod Meeting
 pub mod Decisions
 pub mod Local
 pub mod Theorems
-pub mod Examples

@@ -2,14 +2,14 @@
 use mathlib.Core.Path.{_≡_, refl, sym, ap, _∙_}
 use mathlib.Core.Bool.{Bool, true, false, cond}
 use mathlib.Core.List.{List, [], _∷_, _++_, append-assoc, append-nil}
-use Prim.Native.Nat.{ℕ, zero, suc, _+_, _-_, _≤_, _<_}
+use Prim.Native.Nat.{ℕ, zero, suc, _+_, _≤_, _<_}
 use native.Mathlib.Omega.{arith}
 use lib.Dec.{eqb, ltb}
 use lib.ListN.{getD, length, drop, length-append}
 use borrow.Author.Tests.{ltb-true, ltb-false, lt-ltb, le-ltb, eqb-true, eqb-false, eq-eqb, ne-eqb}
 use Rattle.published.specs.Rounds.{Message, Round, Out, Found, absent, found, find, hasOut}
 use Rattle.published.proofs.Tests.{split}
-use Rattle.published.proofs.Messages.{find-found, find-absent, hasOut-append, drop-length}
+use Rattle.published.proofs.Messages.{find-found, find-absent, find-out, hasOut-append, drop-length}
 use Rattle.tables.specs.Runs.{roundsOf, lineOf}
 
 module _ (R : ℕ) where
@@ -58,15 +58,9 @@ module _ (R : ℕ) where
       (λ c. let p = eqb-true n q c in rw (eq-eqb (suc n) (suc q) (omega arith), lt-ltb q (suc n) (omega arith), p) refl)
       (λ c. let p = eqb-false n q c in rw (ne-eqb (suc n) (suc q) (omega arith), le-ltb q (suc n) (omega arith)) refl))
 
-  find-behind : (r : ℕ) (l : List Message) → find r (l ++ (Out ∷ [])) ≡ find r l
-  unfolding find
-  find-behind r [] = refl
-  find-behind r (Out ∷ l) = find-behind r l
-  find-behind r (Round q v w ∷ l) = rw (find-behind r l) refl
-
   pub line-find : (log : List ℕ) (n q : ℕ) (o : Bool) → find (suc q) (lineOf R log n o) ≡ foundAt log n q
   unfolding lineOf
-  line-find log n q true = find-behind (suc q) (roundsOf R log n) ∙ rounds-find log n q
+  line-find log n q true = find-out (suc q) (roundsOf R log n) ∙ rounds-find log n q
   line-find log n q false = rw append-nil (rounds-find log n q)
 
   rounds-quiet : (log : List ℕ) (n : ℕ) → hasOut (roundsOf R log n) ≡ false

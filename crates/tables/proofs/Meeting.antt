@@ -11,7 +11,7 @@ use Rattle.tables.proofs.Steps.{links}
 use Rattle.tables.proofs.Empty.{empty-sound, empty-run}
 
 module _ (N R : ℕ) (hR : 1 ≤ R) where
-  pub sound-meet : (e : Tables) → Sound N R (e .benches) (e .logs) → (l : List Step) → Meets N R e l (runOf N R (e .benches) (e .logs))
+  sound-meet : (e : Tables) → Sound N R (e .benches) (e .logs) → (l : List Step) → Meets N R e l (runOf N R (e .benches) (e .logs))
   unfolding answers tableAnswers runFrom tablesFrom
   sound-meet e s [] = record { answers-are = refl; run-is = refl; stays = s }
   sound-meet e s (a ∷ l) =

@@ -52,23 +52,23 @@ module _ (N R : ℕ) where
     abbrev b : Bench
     b = rows N t k
 
+    taken-same : (b′ : Bench) → b′ .taken ≡ b .taken → b′ .outs ≡ b .outs → takenBy R (logs l) k b′ ≡ takenBy R (logs l) k b
+    unfolding takenBy
+    taken-same b′ p q = fun-ext go
+      where
+        go : (f : ℕ) → takenBy R (logs l) k b′ f ≡ takenBy R (logs l) k b f
+        go zero = refl
+        go (suc j) = rw (p, q) refl
+
     pub goes-quietly : (st : ℕ) → 4 ≤ st
         → Links N R (acted (stored N t l k (inState st b))) (done (put (runOf N R t l) (suc k) (published.inState (stateOf st) (runOf N R t l (suc k)))))
-    unfolding inState published.inState benchOf runOf runBy takenBy
+    unfolding inState published.inState benchOf runOf runBy
     goes-quietly st hs =
         remains N R t l s k h (inState st b) (idle N R t l s k h (inState st b) (fit-gone b st hs (s .ok .fit k)) refl refl refl refl) _
-        (bench-path _ _ refl refl refl refl refl (fun-ext same) refl refl)
-      where
-        same : (f : ℕ) → takenBy R (logs l) k (inState st b) f ≡ takenBy R (logs l) k b f
-        same zero = refl
-        same (suc j) = refl
+        (bench-path _ _ refl refl refl refl refl (taken-same (inState st b) refl refl) refl refl)
 
     pub notices : (j : ℕ) → Links N R (acted (stored N t l k (noticeOf b j))) (done (put (runOf N R t l) (suc k) (noticing (suc j) (runOf N R t l (suc k)))))
-    unfolding noticeOf noticing benchOf runOf runBy takenBy
+    unfolding noticeOf noticing benchOf runOf runBy
     notices j =
         remains N R t l s k h (noticeOf b j) (idle N R t l s k h (noticeOf b j) (fit-notice b j (s .ok .fit k)) refl refl refl refl) _
-        (bench-path _ _ refl refl refl refl refl (fun-ext same) (noticed-put (b .noticed) j) refl)
-      where
-        same : (f : ℕ) → takenBy R (logs l) k (noticeOf b j) f ≡ takenBy R (logs l) k b f
-        same zero = refl
-        same (suc i) = refl
+        (bench-path _ _ refl refl refl refl refl (taken-same (noticeOf b j) refl refl) (noticed-put (b .noticed) j) refl)

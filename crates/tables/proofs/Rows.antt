@@ -4,11 +4,12 @@ use mathlib.Core.List.{List, [], _∷_}
 use Prim.Native.Nat.{ℕ, zero, suc, _+_, _<_}
 use native.Mathlib.Omega.{arith}
 use lib.ListN.{length, getD, drop, set, replicate, drop-of-length-le}
-use lib.Seq.{drop-cons, getD-set-same, getD-set-other}
+use lib.Seq.{drop-cons, getD-set-same, getD-set-other, set-set}
 use Rattle.published.specs.Rounds.{put}
 use Rattle.published.proofs.Updates.{put-ind}
 use Rattle.bench.specs.declared.Bench.{Bench}
 use Rattle.tables.specs.Rows.{from, ofRow, rowOf, rows, logs}
+use Rattle.tables.specs.Steps.{putAt}
 
 -- ---- the words of a row
 
@@ -21,7 +22,7 @@ pub from-all : (n : ℕ) (l : List ℕ) → length l ≡ n → from l 0 n ≡ l
 from-all n l e = from-drop l 0 n (omega arith)
 
 -- behind its first word
-pub from-next : (x : ℕ) (l : List ℕ) (i n : ℕ) → from (x ∷ l) (suc i) n ≡ from l i n
+from-next : (x : ℕ) (l : List ℕ) (i n : ℕ) → from (x ∷ l) (suc i) n ≡ from l i n
 from-next x l i zero = refl
 from-next x l i (suc n) = ap (λ (r : List ℕ). getD l i 0 ∷ r) (from-next x l (suc i) n)
 
@@ -43,7 +44,7 @@ from-zeros l f i (suc n) = rw (f i, from-zeros l f (suc i) n) refl
 module _ (N : ℕ) where
   -- ---- load and store
 
-  pub load-row : (b : Bench) → length (b .taken) ≡ N → ofRow N (rowOf N b) ≡ b
+  load-row : (b : Bench) → length (b .taken) ≡ N → ofRow N (rowOf N b) ≡ b
   unfolding ofRow rowOf
   load-row b e =
       ap (λ (x : List ℕ). record { state = b .state; round = b .round; value = b .value; world = b .world; outs = b .outs; noticed = b .noticed; sent = b .sent; out = b .out; chose = b .chose; taken = x })
@@ -74,6 +75,10 @@ module _ (N : ℕ) where
   rows-set t k b h e = fun-ext λ i. put-ind (λ y. rows N (set t k (rowOf N b)) i ≡ y) (rows N t) k b i
       (λ p. rw p (ap (ofRow N) (getD-set-same t k (rowOf N b) [] h) ∙ load-row b e))
       (λ p. ap (ofRow N) (getD-set-other t k i (rowOf N b) [] p))
+
+-- one word more of row k
+pub put-word : (t : List (List ℕ)) (k : ℕ) → k < length t → (u : List (List ℕ)) (r : List ℕ) → u ≡ set t k r → (i x : ℕ) → putAt u k i x ≡ set t k (set r i x)
+put-word t k h u r e i x = rw e (set-set t k r _ ∙ ap (λ (q : List ℕ). set t k (set q i x)) (getD-set-same t k r [] h))
 
 pub logs-set : (l : List (List ℕ)) (k : ℕ) (r : List ℕ) → k < length l → logs (set l k r) ≡ put (logs l) k r
 logs-set l k r h = fun-ext λ i. put-ind (λ y. logs (set l k r) i ≡ y) (logs l) k r i

@@ -17,7 +17,7 @@ use Rattle.published.proofs.Worlds.{member-worldOf, worldOf-lt}
 use Rattle.bench.specs.declared.Bench.{Bench}
 use Rattle.bench.specs.declared.Heard.{Heard}
 use Rattle.bench.specs.Sets.{has}
-use Rattle.bench.specs.Turns.{awaitedAt, awaitsOf, differs, forbidsAt, forbidsOf, least}
+use Rattle.bench.specs.Turns.{awaitedAt, awaitsOf, differs, forbidsBy, forbidsAt, forbidsOf, least}
 use Rattle.tables.specs.Rows.{logs}
 use Rattle.tables.specs.Lines.{hears, withMessage, heardTo, heardOf}
 use Rattle.tables.specs.Runs.{lineOf, takenBy, noticedBy, benchOf}
@@ -169,7 +169,7 @@ module _ (N : ℕ) (b : Bench) (h : Heard) (z : ℕ → View) (zs : (j : ℕ) �
       (λ j l. rw (zs j l, member-has j w) (awaited-view (has w j) (has (h .set) j) (has (b .outs) j) (has (b .noticed) j) (getD (h .values) j 0) (getD (h .worlds) j 0)))
 
   pub decides-is : ((j : ℕ) → j < N → has (h .set) j ≡ true → getD (h .worlds) j 0 < 2 ^ N) → decidesOn N v w z ≡ not (forbidsOf N b h)
-  unfolding forbidsOf forbidsAt differs decidesOn everyIn viewAt
+  unfolding forbidsOf forbidsAt forbidsBy differs decidesOn everyIn viewAt
   decides-is f = every-some (forbidsAt b h) (λ i. not (member i w) || agrees N v w (z i)) N
       (λ j l. rw (zs j l, member-has j w)
       (forbids-view N (has w j) (has (h .set) j) (has (b .outs) j) (has (b .noticed) j) (getD (h .values) j 0) (getD (h .worlds) j 0) v w

@@ -1,27 +1,28 @@
 -- A bench sends OUT, or the message of its next round: on the tables as in the published run. Assumes nothing.
-use mathlib.Core.Path.{_≡_, refl, sym, ap, _∙_, fun-ext}
+use mathlib.Core.Path.{_≡_, refl, sym, _∙_, fun-ext}
 use mathlib.Core.Bool.{false}
 use mathlib.Core.List.{List, [], _∷_, _++_, append-nil}
 use Prim.Native.Nat.{ℕ, zero, suc, _+_, _-_, _^_, _≤_, _<_}
 use native.Mathlib.Omega.{arith}
 use lib.Dec.{eqb}
 use lib.ListN.{getD, length, set, length-set}
-use lib.Seq.{getD-set-same, getD-set-other, set-set}
+use lib.Seq.{getD-set-same, getD-set-other}
 use borrow.Author.Tests.{eqb-true, eqb-false}
 use Rattle.published.specs.Rounds as published
 use Rattle.published.specs.Rounds.{put, done, entering, sending}
 use Rattle.published.proofs.Tests.{split, clash}
 use Rattle.published.proofs.Updates.{put-same, put-other}
-use Rattle.kinds.specs.declared.Message.{Message}
 use Rattle.kinds.specs.declared.Message.the-variants.{Round, Out}
 use Rattle.bench.specs.declared.Bench.{Bench}
 use Rattle.bench.specs.Changes.{takenOf, outOf, takeOf, inRound, sentTo, sentOut}
 use Rattle.tables.specs.Rows.{rows, logs}
+use Rattle.tables.specs.Lines.{message}
 use Rattle.tables.specs.Steps.{acted, stored, putAt, sentOf}
 use Rattle.tables.specs.Runs.{roundsOf, lineOf, stateOf, takenBy, decisionOf, benchOf, runBy, runOf}
 use Rattle.tables.specs.Sound.{Sound}
 use Rattle.tables.specs.Meets.{Links}
 use Rattle.tables.proofs.Sets.{joined-same, joined-other}
+use Rattle.tables.proofs.Rows.{put-word}
 use Rattle.tables.proofs.Lines.{Keeps, keeps-all, rounds-kept}
 use Rattle.tables.proofs.Change.{bench-path, Becomes, changes, remains}
 
@@ -50,12 +51,6 @@ module _ (R : ℕ) (log : List ℕ) (q v w : ℕ) (size : length log ≡ R + R) 
   unfolding roundsOf
   longer-rounds = rw (rounds-kept R log longer q longer-keeps q (omega arith), longer-value, longer-world) refl
 
--- both entries go into the one log
-log-put : (l : List (List ℕ)) (k i j v w : ℕ) → k < length l → putAt (putAt l k i v) k j w ≡ set l k (set (set (getD l k []) i v) j w)
-log-put l k i j v w h =
-    ap (λ (r : List ℕ). set (putAt l k i v) k (set r j w)) (getD-set-same l k (set (getD l k []) i v) [] h)
-    ∙ set-set l k (set (getD l k []) i v) (set (set (getD l k []) i v) j w)
-
 -- ---- what a bench that sends OUT or a round message is
 
 -- bench b in state st, with `chose` as given
@@ -65,9 +60,6 @@ withState st chose b = record { state = st; round = b .round; value = b .value; 
 -- the published bench x in a state and with a decision
 unfoldable pub withDecision : published.State → published.Decision → published.Bench → published.Bench
 withDecision st d x = record { state = st; round = x .round; value = x .value; world = x .world; sent = x .sent; taken = x .taken; noticed = x .noticed; decision = d }
-
-abbrev pub message : ℕ → ℕ → ℕ → Message
-message r v w = Round (record { round = record { 0 = r }; value = record { 0 = v }; world = w })
 
 module _ (N R : ℕ) (t l : List (List ℕ)) (s : Sound N R t l) (k : ℕ) (h : k < N) where
   abbrev b : Bench
@@ -178,4 +170,4 @@ module _ (N R : ℕ) (t l : List (List ℕ)) (s : Sound N R t l) (k : ℕ) (h : 
     unfolding sentOf takeOf
     sends-round r e =
         let p : suc q - 1 ≡ q = omega arith in
-        rw (e, p, log-put l k q (q + R) v w (omega (arith, s .books))) enters
+        rw (e, p, put-word l k (omega (arith, s .books)) (putAt l k q v) (set (getD l k []) q v) refl (q + R) w) enters

@@ -9,10 +9,13 @@ use Rattle.published.specs.Rounds.{Run, Step, start, turn, step, runFrom, upTo,
 use Rattle.published.proofs.Theorems as published
 use Rattle.published.proofs.Invariant.{M}
 use Rattle.published.proofs.Locality.{history}
-use Rattle.bench.specs.Turns.{turnOf}
+use Rattle.bench.specs.declared.Bench.{Bench}
+use Rattle.bench.specs.declared.Answer.{Answer}
+use Rattle.bench.specs.declared.Answer.the-variants.{Decided, Went, Refused}
+use Rattle.bench.specs.Turns.{turnOf, numberOf}
 use Rattle.tables.specs.Rows.{rows, logs}
 use Rattle.tables.specs.Lines.{heardOf}
-use Rattle.tables.specs.Steps.{Tables, Act, Acts, tableStep, tablesFrom, emptyTables}
+use Rattle.tables.specs.Steps.{Tables, Act, Acts, turnBy, turnOn, turnAt, tableStep, tablesFrom, emptyTables}
 use Rattle.tables.specs.Runs.{runOf}
 use Rattle.tables.specs.Sound.{Sound}
 use Rattle.tables.specs.Meets.{Links, Meets}
@@ -102,6 +105,16 @@ pub turn-local : (N R : ℕ) (t l t′ l′ : List (List ℕ)) (k : ℕ) → get
     → ((j : ℕ) → j < N → Keeps R (logs l j) (logs l′ j) (getD (rows N t k .taken) j 0))
     → turnOf N R (rows N t k) (heardOf N R l (rows N t k)) ≡ turnOf N R (rows N t′ k) (heardOf N R l′ (rows N t′ k))
 turn-local N R t l t′ l′ k e same = rw (← e, heard-local N R (rows N t k) l l′ same) refl
+
+-- A turn is answered by document 01's number of what the bench by value answers.
+pub turn-number : (N R : ℕ) (t l : List (List ℕ)) (k : ℕ) → turnAt N R t l k .answer ≡ numberOf (turnOf N R (rows N t k) (heardOf N R l (rows N t k)) .answer)
+unfolding turnAt turnOn turnBy numberOf
+turn-number N R t l k = said _ (turnOf N R (rows N t k) (heardOf N R l (rows N t k)) .answer)
+  where
+    said : (b : Bench) (a : Answer) → turnBy N R t l k b a .answer ≡ numberOf a
+    said b (Decided v m) = refl
+    said b (Went m) = refl
+    said b (Refused n) = refl
 
 -- After two lists of steps that bring the same history to a bench, turn answers it the same number.
 pub turn-answer-local : (N R : ℕ) → 1 ≤ R → (l l′ : List Step) (b : ℕ) → history N (upTo R) newRun b l ≡ history N (upTo R) newRun b l′

@@ -20,14 +20,14 @@ use Rattle.bench.specs.Sets.{has}
 use Rattle.bench.specs.Changes.{choosing, inRound}
 use Rattle.bench.specs.Turns.{awaitsOf, forbidsOf, least, gatherOf, refuses, goOnOf, concludes, turnOf}
 use Rattle.tables.specs.Rows.{rows, logs}
-use Rattle.tables.specs.Lines.{hears, heardOf}
+use Rattle.tables.specs.Lines.{message, hears, heardOf}
 use Rattle.tables.specs.Steps.{acted, sentOf, turnBy, turnOn, turnAt}
 use Rattle.tables.specs.Runs.{stateOf, decisionOf, benchOf, runBy, runOf}
 use Rattle.tables.specs.Sound.{Sound}
 use Rattle.tables.specs.Meets.{Links}
 use Rattle.tables.proofs.States.{running-is}
 use Rattle.tables.proofs.Seen.{viewAt, Hears, heard-all, see-is, settled-is, decides-is, heard-is, least-is}
-use Rattle.tables.proofs.Sending.{withState, withDecision, message, sends-out, sends-round}
+use Rattle.tables.proofs.Sending.{withState, withDecision, sends-out, sends-round}
 use Rattle.tables.proofs.Checks.{asks, bars, all-hold, behind}
 
 module _ (N R : ℕ) (t l : List (List ℕ)) (s : Sound N R t l) (k : ℕ) (hk : k < N) where

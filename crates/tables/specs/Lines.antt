@@ -1,23 +1,26 @@
 -- A line is the sender's log and the receiver's count: what waits on it, and what a bench has heard of its round.
 -- A log has the value of round r at place r - 1 and its world R places further.
-use mathlib.Core.Bool.{Bool, true, false, cond, not, _&&_}
+use mathlib.Core.Bool.{Bool, cond, not, _&&_}
 use Prim.Native.Nat.{ℕ, zero, suc, _+_, _-_, _^_}
 use mathlib.Core.List.{List, []}
 use lib.Dec.{eqb, leb, ltb}
 use lib.ListN.{getD, set, replicate}
 use lib.Bits.{bitOr}
+use Rattle.kinds.specs.declared.Message.{Message}
 use Rattle.kinds.specs.declared.Message.the-variants.{Round, Out}
 use Rattle.bench.specs.declared.Heard.{Heard}
 use Rattle.bench.specs.declared.Bench.{Bench}
 use Rattle.bench.specs.declared.Waiting.{Waiting}
 use Rattle.bench.specs.declared.Waiting.the-variants.{Next, Nothing}
-use Rattle.bench.specs.Sets.{has}
+
+abbrev pub message : ℕ → ℕ → ℕ → Message
+message r v w = Round (record { round = record { 0 = r }; value = record { 0 = v }; world = w })
 
 -- what waits behind n round messages taken (and OUT, if o), of a log whose bench has sent round messages up to `sent` (and OUT, if out is 1)
 unfoldable pub waitingOf : ℕ → List ℕ → ℕ → Bool → ℕ → ℕ → Waiting
 waitingOf R log n o sent out =
     cond (ltb n sent)
-    (cond (ltb n R) (Next (Round (record { round = record { 0 = n + 1 }; value = record { 0 = getD log n 0 }; world = getD log (n + R) 0 }))) Nothing)
+    (cond (ltb n R) (Next (message (n + 1) (getD log n 0) (getD log (n + R) 0))) Nothing)
     (cond (eqb out 1 && not o) (Next Out) Nothing)
 
 abbrev pub silence : ℕ → Heard

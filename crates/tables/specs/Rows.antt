@@ -9,7 +9,7 @@ abbrev pub from : List ℕ → ℕ → ℕ → List ℕ
 from l i zero = []
 from l i (suc n) = getD l i 0 ∷ from l (suc i) n
 
--- a row read and a row made, written out: what code with a fixed N computes
+-- a row read, written out: what code with a fixed N computes
 abbrev pub readRow : ℕ → List ℕ → Bench
 readRow N l =
     record {
@@ -25,15 +25,12 @@ readRow N l =
       taken = from l 9 N;
     }
 
-abbrev pub madeRow : ℕ → Bench → List ℕ
-madeRow N b =
-    b .state ∷ b .round .0 ∷ b .value .0 ∷ b .world ∷ b .outs ∷ b .noticed ∷ b .sent ∷ b .out ∷ b .chose ∷ from (b .taken) 0 N
-
 unfoldable pub ofRow : ℕ → List ℕ → Bench
 ofRow N l = readRow N l
 
 unfoldable pub rowOf : ℕ → Bench → List ℕ
-rowOf N b = madeRow N b
+rowOf N b =
+    b .state ∷ b .round .0 ∷ b .value .0 ∷ b .world ∷ b .outs ∷ b .noticed ∷ b .sent ∷ b .out ∷ b .chose ∷ from (b .taken) 0 N
 
 -- the bench at place k of a table, and the log at place k
 abbrev pub rows : ℕ → List (List ℕ) → ℕ → Bench

@@ -1,7 +1,7 @@
 -- The seven steps on the two tables, for N benches and R rounds: the answer and both tables after, for all tables that can be handed in.
 use mathlib.Core.Path.{_≡_}
-use mathlib.Core.Bool.{Bool, true, false, cond, not, _&&_, _||_}
-use Prim.Native.Nat.{ℕ, zero, suc, _+_, _-_, _^_}
+use mathlib.Core.Bool.{Bool, cond, not, _&&_, _||_}
+use Prim.Native.Nat.{ℕ, _+_, _-_, _^_}
 use mathlib.Core.List.{List, [], _∷_}
 use lib.Dec.{eqb, ltb}
 use lib.ListN.{getD, set, replicate}
@@ -18,7 +18,7 @@ use Rattle.bench.specs.Sets.{has, some}
 use Rattle.bench.specs.Changes.{takeOf, noticeOf, inState, inRound, sentTo, sentOut}
 use Rattle.bench.specs.Turns.{turnOf}
 use Rattle.tables.specs.Rows.{rowOf, rows, logs}
-use Rattle.tables.specs.Lines.{waitingOf, heardOf}
+use Rattle.tables.specs.Lines.{message, waitingOf, heardOf}
 
 pub record Tables : Type 0 where
   pub benches : List (List ℕ)
@@ -78,7 +78,7 @@ startAt N R t l v w k =
     (cond (ltb w (2 ^ N) && has w k)
     (cond (leavesOut N t w) (refused 6 t l)
     (cond (shutsOut N R t l k) (refused 7 t l)
-    (acted (sentOf N R t l k (inRound 1 (record { 0 = v }) w (rows N t k)) (Round (record { round = record { 0 = 1 }; value = record { 0 = v }; world = w }))))))
+    (acted (sentOf N R t l k (inRound 1 (record { 0 = v }) w (rows N t k)) (message 1 v w)))))
     (refused 5 t l)))
     (refused 3 t l)
 

@@ -1,109 +1,79 @@
-use native.Mathlib.Omega.{arith}
 use mathlib.Core.Path.{refl, sym}
 use denote.Ref.{now}
-use lib.ListN.{length, take}
+use lib.ListN.{take}
 use lib.Seq.{length-take-le}
 use Rattle.tables.specs.Steps.{emptyTables}
-use Rattle.runtext.proofs.Stores.{stored-length}
-use Rattle.report.proofs.Reports.{Made, made, totals-room, lines-few, text-long, room-short, room-front, report-done}
+use Rattle.runtext.proofs.Stores.{room-is, room-not}
+use Rattle.report.proofs.Reports.{Made, made, totals-room, lines-few, text-long, room-front, room-short, report-done}
 use borrow.Author.Needs.{needs}
 use Rattle.report.proofs.report.Statement.{statement}
 use Rattle.report.proofs.report.Tie as tie
-use Rattle.report.proofs.report.Reads as reads
-use Rattle.report.proofs.report.Lts as lts
-use Rattle.report.proofs.answers.answers_length.Reads as answers-length-reads
-use Rattle.report.proofs.answers.store_answers.Reads as store-answers-reads
-use Rattle.report.proofs.benches.store_benches.Reads as store-benches-reads
-use Rattle.report.proofs.playing.play.Reads as play-reads
-use Rattle.report.proofs.totals.store_totals.Reads as store-totals-reads
-use Rattle.runtext.proofs.bytes.put_bytes.Reads as put-bytes-reads
 
--- behind `answers_length` the parts of the report are made
-abbrev played : tie.After-answers-length → tie.After-play
-played c = c .before .before .before .before .before .before .before .before .before .before
+-- behind `store_totals` the parts of the report are made
+abbrev played : tie.After-store-totals → tie.After-play
+played c = c .before .before .before .before .before .before .before .before
 
-abbrev start : tie.After-answers-length → tie.Start
-start c = played c .before .before .before .before .before .before .before
+abbrev start : tie.After-store-totals → tie.Start
+start c = c .before .before .before .before .before .before .before .before .before .before .before .before .before .before .before
 
-parts : (c : tie.After-answers-length)
-    → Made (now (start c .args .text)) (take (played c .play .result) (played c .play .last .1 .1 .1 .0)) (c .before .before .store-totals .last .0) (c .answers-length .result) (c .before .before .store-totals .result)
-parts c =
-    let s = c .before .before in
-    made (played c .play .ensures) (s .before .before .before .store-benches .ensures) (s .store-totals .ensures) (c .answers-length .ensures)
-    (played c .before .before .before .before .if1 .left) (search needs)
+parts : (c : tie.After-store-totals)
+    → Made (now (start c .args .text)) (take (played c .play .result) (played c .play .last .1 .1 .1 .0)) (c .store-totals .last .0) (c .store-totals .result)
+parts c = made (played c .play .ensures) (c .before .before .before .store-benches .ensures) (c .store-totals .ensures) (search needs)
 
--- src/lib.rt:30:9
 returns : tie.Need-returns
 returns c = text-long _ _ (c .if1 .taken)
 
--- src/lib.rt:35:53
 slice-aggregate-play : tie.Need-slice-aggregate-play
 slice-aggregate-play c = search needs
 
--- src/lib.rt:35:9
 play-requires : tie.Need-play-requires
 unfolding emptyTables
 play-requires c κs = (refl, (refl, search needs))
 
--- src/lib.rt:36:19
 array-share-prefix-kept : tie.Need-array-share-prefix-kept
 array-share-prefix-kept c = search needs
 
--- src/lib.rt:36:9
 slice-aggregate-answers : tie.Need-slice-aggregate-answers
 slice-aggregate-answers c = sym (length-take-le _ _ (c .before .before .play .ensures .inside))
 
--- src/lib.rt:39:30
 slice-aggregate-store-benches : tie.Need-slice-aggregate-store-benches
 slice-aggregate-store-benches c = search needs
 
--- src/lib.rt:39:9
 store-benches-requires : tie.Need-store-benches-requires
 store-benches-requires c κs = search needs
 
--- src/lib.rt:40:26
 slice-aggregate-store-totals : tie.Need-slice-aggregate-store-totals
 slice-aggregate-store-totals c = search needs
 
--- src/lib.rt:40:9
 store-totals-requires : tie.Need-store-totals-requires
 store-totals-requires c κs = (lines-few (c .before .before .before .before .before .before .before .play .ensures) (c .before .before .before .before .before .before .before .before .before .before .before .if1 .left), totals-room _ (c .before .before .store-benches .ensures) (search needs))
 
--- src/lib.rt:41:18
-answers-length-requires : tie.Need-answers-length-requires
-answers-length-requires c κs = lines-few (c .before .before .before .before .before .before .before .before .before .play .ensures) (c .before .before .before .before .before .before .before .before .before .before .before .before .before .if1 .left)
+room-for-requires : tie.Need-room-for-requires
+room-for-requires c κs = (lines-few (c .before .before .before .before .before .before .before .before .before .before .play .ensures) (c .before .before .before .before .before .before .before .before .before .before .before .before .before .before .if1 .left), parts (c .before .before) .short)
 
--- src/lib.rt:41:18
-add-length : tie.Need-add-length
-add-length c = omega (arith, parts c .short)
-
--- src/lib.rt:43:9
-returns-2 : tie.Need-returns-2
-returns-2 c = room-short _ _ _ _ _ _ (c .before .before .before .before .before .before .before .before .before .before .before .before .before .before .before .if1 .left) (parts (c .before)) (c .if2 .taken)
-
--- src/lib.rt:45:9
-store-answers-requires : tie.Need-store-answers-requires
-store-answers-requires c κs = (lines-few (c .before .before .before .before .before .before .before .before .before .before .before .before .play .ensures) (c .before .before .before .before .before .before .before .before .before .before .before .before .before .before .before .before .if1 .left), room-front _ (now (start (c .before .before) .args .room)) _ _ _ _ (c .before .before .before .before .before .before .before .before .before .before .before .before .before .before .before .before .if1 .left) (parts (c .before .before)) (c .before .if2 .left))
-
--- src/lib.rt:46:25
-array-share-prefix-rest : tie.Need-array-share-prefix-rest
-array-share-prefix-rest c = parts (c .before .before .before .before .before .before) .fits
-
--- src/lib.rt:46:25
-slice-aggregate-put-bytes : tie.Need-slice-aggregate-put-bytes
-slice-aggregate-put-bytes c = sym (length-take-le _ _ (parts (c .before .before .before .before .before .before .before) .fits))
-
--- src/lib.rt:46:5
-put-bytes-requires : tie.Need-put-bytes-requires
-put-bytes-requires c κs = search needs
-
--- src/lib.rt:26:1
 same-length : tie.Need-same-length
 same-length c = search needs
 
--- src/lib.rt:26:1
+returns-2 : tie.Need-returns-2
+returns-2 c = room-short _ _ _ _ _ (c .before .before .before .before .before .before .before .before .before .before .before .before .before .before .before .before .if1 .left) (parts (c .before .before .before .before)) (room-not (c .before .room-for .ensures) (c .if2 .taken))
+
+store-answers-requires : tie.Need-store-answers-requires
+store-answers-requires c κs = (lines-few (c .before .before .before .before .before .before .before .before .before .before .before .before .before .play .ensures) (c .before .before .before .before .before .before .before .before .before .before .before .before .before .before .before .before .before .if1 .left), room-front _ _ (room-is (c .before .before .room-for .ensures) (c .before .if2 .left)))
+
+array-share-prefix-rest : tie.Need-array-share-prefix-rest
+array-share-prefix-rest c = parts (c .before .before .before .before .before .before .before .before .before) .fits
+
+slice-aggregate-put-bytes : tie.Need-slice-aggregate-put-bytes
+slice-aggregate-put-bytes c = sym (length-take-le _ _ (parts (c .before .before .before .before .before .before .before .before .before .before) .fits))
+
+put-bytes-requires : tie.Need-put-bytes-requires
+put-bytes-requires c κs = search needs
+
+same-length-2 : tie.Need-same-length-2
+same-length-2 c = search needs
+
 returns-3 : tie.Need-returns-3
-returns-3 c = report-done _ _ _ _ _ _ (c .before .before .before .before .before .before .before .before .before .before .before .before .before .before .before .before .before .before .before .before .before .before .before .before .if1 .left) (parts (c .before .before .before .before .before .before .before .before .before .before)) (c .before .before .before .before .before .before .before .before .before .if2 .left) (c .before .before .before .before .before .before .before .store-answers .ensures) (c .before .before .put-bytes .ensures)
+returns-3 c = report-done _ _ _ _ _ (c .before .before .before .before .before .before .before .before .before .before .before .before .before .before .before .before .before .before .before .before .before .before .before .before .before .if1 .left) (parts (c .before .before .before .before .before .before .before .before .before .before .before .before .before)) (room-is (c .before .before .before .before .before .before .before .before .before .before .room-for .ensures) (c .before .before .before .before .before .before .before .before .before .if2 .left)) (c .before .before .before .before .before .before .before .store-answers .ensures) (c .before .before .put-bytes .ensures)
 
 pub report-spec : {M : Type 1} → statement M
 report-spec =
@@ -118,12 +88,12 @@ report-spec =
     store-benches-requires
     slice-aggregate-store-totals
     store-totals-requires
-    answers-length-requires
-    add-length
+    room-for-requires
+    same-length
     returns-2
     store-answers-requires
     array-share-prefix-rest
     slice-aggregate-put-bytes
     put-bytes-requires
-    same-length
+    same-length-2
     returns-3)

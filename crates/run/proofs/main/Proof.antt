@@ -4,23 +4,16 @@ use lib.ListN.{length-replicate}
 use borrow.Author.Needs.{needs}
 use Rattle.run.proofs.main.Statement.{statement}
 use Rattle.run.proofs.main.Tie as tie
-use Rattle.run.proofs.main.Reads as reads
-use Rattle.run.proofs.main.Lts as lts
-use Rattle.run.proofs.run.Reads as run-reads
 
--- src/main.rt:10:9
 slice-aggregate-run : tie.Need-slice-aggregate-run
 slice-aggregate-run c = search needs
 
--- src/main.rt:10:21
 slice-aggregate-run-2 : tie.Need-slice-aggregate-run-2
 slice-aggregate-run-2 c = sym (length-replicate {0} {A = ℕ} 1365176 0)
 
--- src/main.rt:10:5
 run-requires : tie.Need-run-requires
 run-requires c κs = search needs
 
--- src/main.rt:7:1
 returns : tie.Need-returns
 returns c = search needs
 

@@ -4,74 +4,52 @@ use Rattle.report.proofs.Theorems.{report-inside}
 use borrow.Author.Needs.{needs}
 use Rattle.run.proofs.run.Statement.{statement}
 use Rattle.run.proofs.run.Tie as tie
-use Rattle.run.proofs.run.Reads as reads
-use Rattle.run.proofs.run.Lts as lts
-use Rattle.io.proofs.read_full.Reads as read-full-reads
-use Rattle.io.proofs.write_all.Reads as write-all-reads
-use Rattle.report.proofs.report.Reads as report-reads
-use Rattle.run.proofs.print_refusal.Reads as print-refusal-reads
 
--- src/main.rt:14:9
 read-full-requires : tie.Need-read-full-requires
 read-full-requires c κs = search needs
 
--- src/main.rt:15:18
 slice-reshare-prefix-report : tie.Need-slice-reshare-prefix-report
 slice-reshare-prefix-report c = search needs
 
--- src/main.rt:15:18
 slice-aggregate-report : tie.Need-slice-aggregate-report
 slice-aggregate-report c = search needs
 
--- src/main.rt:15:11
 report-requires : tie.Need-report-requires
 report-requires c κs = search needs
 
--- src/main.rt:16:26
 enum-known-length : tie.Need-enum-known-length
 enum-known-length c = search needs
 
--- src/main.rt:17:42
 slice-reshare-prefix-write-all : tie.Need-slice-reshare-prefix-write-all
 slice-reshare-prefix-write-all c = report-inside (c .before .before .before .before .before .report .ensures) _ (c .before .length .given .1)
 
--- src/main.rt:17:42
 slice-aggregate-write-all : tie.Need-slice-aggregate-write-all
 slice-aggregate-write-all c = sym (length-take-le _ _ (report-inside (c .before .before .before .before .before .before .report .ensures) _ (c .before .before .length .given .1)))
 
--- src/main.rt:17:13
 write-all-requires : tie.Need-write-all-requires
 write-all-requires c κs = search needs
 
--- src/main.rt:19:27
 enum-known-number : tie.Need-enum-known-number
 enum-known-number c = search needs
 
--- src/main.rt:19:38
 print-refusal-requires : tie.Need-print-refusal-requires
 print-refusal-requires c κs = search needs
 
--- src/main.rt:13:1
 same-length : tie.Need-same-length
 same-length c = search needs
 
--- src/main.rt:13:1
 same-length-2 : tie.Need-same-length-2
 same-length-2 c = search needs
 
--- src/main.rt:13:1
 returns : tie.Need-returns
 returns c = search needs
 
--- src/main.rt:13:1
 same-length-3 : tie.Need-same-length-3
 same-length-3 c = search needs
 
--- src/main.rt:13:1
 same-length-4 : tie.Need-same-length-4
 same-length-4 c = search needs
 
--- src/main.rt:13:1
 returns-2 : tie.Need-returns-2
 returns-2 c = search needs
 

@@ -1,72 +1,62 @@
--- `ledger::joining::close` meets its contract: each way through is a lemma of `Answered`.
-use Rattle.ledger.specs.Seen.{rowIs}
-use Rattle.ledger.proofs.Answered.{is-sender, close-1, close-15, close-17, close-done}
+-- `ledger::joining::close` meets its contract: by its number.
+use native.Mathlib.Omega.{arith}
+use Prim.Native.Nat.{_<_}
+use mathlib.Core.Path.{refl, sym, _∙_}
+use lib.ListN.{length, length-map}
+use Rattle.ledger.specs.Seen.{rowsOf, bookOf}
+use Rattle.ledger.proofs.Answered.{tells-refused, knows, close-done}
 use borrow.Author.Needs.{needs}
 use Rattle.ledger.proofs.joining.close.Statement.{statement}
 use Rattle.ledger.proofs.joining.close.Tie as tie
 
-is-sender-requires : tie.Need-is-sender-requires
-is-sender-requires c κs = search needs
+place-of-requires : tie.Need-place-of-requires
+place-of-requires c κs = search needs
 
-refused-requires : tie.Need-refused-requires
-refused-requires c κs = search needs
+mul-seat : tie.Need-mul-seat
+mul-seat c = search needs
+
+element-copy-out-seat : tie.Need-element-copy-out-seat
+element-copy-out-seat c = search needs
+
+close-number-requires : tie.Need-close-number-requires
+close-number-requires c κs = search needs
+
+closed-requires : tie.Need-closed-requires
+closed-requires c κs = c .before .close-number .ensures .1 (c .if1 .taken)
+
+mul-t15 : tie.Need-mul-t15
+mul-t15 c = search needs
+
+element-set-from-after : tie.Need-element-set-from-after
+element-set-from-after c = search needs
 
 returns : tie.Need-returns
-returns c = λ words. search close-1
-
-seat-of-requires : tie.Need-seat-of-requires
-seat-of-requires c κs = search is-sender
-
-is-open-requires : tie.Need-is-open-requires
-is-open-requires c κs = search needs
-
-refused-requires-2 : tie.Need-refused-requires-2
-refused-requires-2 c κs = search needs
+unfolding rowsOf
+returns c =
+    let z = c .before .before .before .before .before .args in
+    let p = c .before .before .before .before .place-of in
+    let there : c .before .before .before .before .place-of .result < length (z .ledger .seats) = omega (arith, c .before .before .before .before .place-of .ensures, sym (length-map (z .ledger .seats) _) ∙ c .before .before .before .before .before .good .0 .1 .1 .1 .0 .1 .0 .1) in
+    λ words. close-done (z .ledger) words (z .sender .0) (p .result) (p .ensures .1) _ refl there _ (c .closed .ensures) _
+    (c .before .before .close-number .ensures .0 (bookOf (z .ledger) words) (knows (z .ledger) words (z .sender .0) (p .result) (p .ensures .1) _ refl)) (c .before .if1 .taken)
 
 returns-2 : tie.Need-returns-2
-returns-2 c = λ words. search close-15
-
-open-slot-requires : tie.Need-open-slot-requires
-open-slot-requires c κs = search needs
-
-refused-requires-3 : tie.Need-refused-requires-3
-refused-requires-3 c κs = search needs
-
-returns-3 : tie.Need-returns-3
-returns-3 c = λ words. search close-17
-
-first-slot-requires : tie.Need-first-slot-requires
-first-slot-requires c κs = search needs
-
-add-t9 : tie.Need-add-t9
-add-t9 c = search needs
-
-with-row-requires : tie.Need-with-row-requires
-with-row-requires c κs = search is-sender
-
-done-requires : tie.Need-done-requires
-done-requires c κs = search needs
-
-returns-4 : tie.Need-returns-4
-unfolding rowIs
-returns-4 c = λ words. search close-done
+unfolding rowsOf
+returns-2 c =
+    let z = c .before .before .before .before .args in
+    let p = c .before .before .before .place-of in
+    λ words. tells-refused (z .ledger) words _ _
+    (c .before .close-number .ensures .0 (bookOf (z .ledger) words) (knows (z .ledger) words (z .sender .0) (p .result) (p .ensures .1) _ refl)) (c .if1 .left)
 
 pub close-spec : {M : Type 1} → statement M
 close-spec =
     tie.close
     (tie.spec
-    is-sender-requires
-    refused-requires
+    place-of-requires
+    mul-seat
+    element-copy-out-seat
+    close-number-requires
+    closed-requires
+    mul-t15
+    element-set-from-after
     returns
-    seat-of-requires
-    is-open-requires
-    refused-requires-2
-    returns-2
-    open-slot-requires
-    refused-requires-3
-    returns-3
-    first-slot-requires
-    add-t9
-    with-row-requires
-    done-requires
-    returns-4)
+    returns-2)

@@ -1,68 +1,58 @@
--- `ledger::joining::join` meets its contract: each way through is a lemma of `Answered`.
-use Rattle.ledger.specs.Seen.{rowIs}
-use Rattle.ledger.proofs.Answered.{is-sender, join-1, join-13, join-14-low, join-14-high, join-done}
+-- `ledger::joining::join` meets its contract: by its number.
+use native.Mathlib.Omega.{arith}
+use Prim.Native.Nat.{_<_}
+use mathlib.Core.Path.{refl, sym, _∙_}
+use lib.ListN.{length, length-map}
+use Rattle.ledger.specs.Seen.{rowIs, rowsOf, bookOf}
+use Rattle.ledger.proofs.Answered.{tells-refused, knows, join-done}
 use borrow.Author.Needs.{needs}
 use Rattle.ledger.proofs.joining.join.Statement.{statement}
 use Rattle.ledger.proofs.joining.join.Tie as tie
 
-is-sender-requires : tie.Need-is-sender-requires
-is-sender-requires c κs = search needs
+place-of-requires : tie.Need-place-of-requires
+place-of-requires c κs = search needs
 
-refused-requires : tie.Need-refused-requires
-refused-requires c κs = search needs
+mul-seat : tie.Need-mul-seat
+mul-seat c = search needs
+
+element-copy-out-seat : tie.Need-element-copy-out-seat
+element-copy-out-seat c = search needs
+
+join-number-requires : tie.Need-join-number-requires
+join-number-requires c κs = search needs
+
+mul-t17 : tie.Need-mul-t17
+mul-t17 c = search needs
+
+element-set-from-after : tie.Need-element-set-from-after
+element-set-from-after c = search needs
 
 returns : tie.Need-returns
-returns c = λ words. search join-1
-
-seat-of-requires : tie.Need-seat-of-requires
-seat-of-requires c κs = search is-sender
-
-has-joined-requires : tie.Need-has-joined-requires
-has-joined-requires c κs = search needs
-
-refused-requires-2 : tie.Need-refused-requires-2
-refused-requires-2 c κs = search needs
+unfolding rowIs rowsOf bookOf
+returns c =
+    let z = c .before .before .before .before .before .args in
+    let p = c .before .before .before .before .place-of in
+    let there : c .before .before .before .before .place-of .result < length (z .ledger .seats) = omega (arith, c .before .before .before .before .place-of .ensures, sym (length-map (z .ledger .seats) _) ∙ c .before .before .before .before .before .good .0 .1 .1 .1 .0 .1 .0 .1) in
+    λ words. join-done (z .ledger) words (z .sender .0) (p .result) (p .ensures .1) _ refl there _ (z .first .0) refl _
+    (c .before .join-number .ensures (bookOf (z .ledger) words) refl (knows (z .ledger) words (z .sender .0) (p .result) (p .ensures .1) _ refl)) (c .if1 .taken)
 
 returns-2 : tie.Need-returns-2
-returns-2 c = λ words. search join-13
-
-refused-requires-3 : tie.Need-refused-requires-3
-refused-requires-3 c κs = search needs
-
-returns-3 : tie.Need-returns-3
-returns-3 c = λ words. search join-14-low
-
-refused-requires-4 : tie.Need-refused-requires-4
-refused-requires-4 c κs = search needs
-
-returns-4 : tie.Need-returns-4
-returns-4 c = λ words. search join-14-high
-
-with-row-requires : tie.Need-with-row-requires
-with-row-requires c κs = search is-sender
-
-done-requires : tie.Need-done-requires
-done-requires c κs = search needs
-
-returns-5 : tie.Need-returns-5
-unfolding rowIs
-returns-5 c = λ words. search join-done
+unfolding rowsOf bookOf
+returns-2 c =
+    let z = c .before .before .before .before .before .args in
+    let p = c .before .before .before .before .place-of in
+    λ words. tells-refused (z .ledger) words _ _
+    (c .before .join-number .ensures (bookOf (z .ledger) words) refl (knows (z .ledger) words (z .sender .0) (p .result) (p .ensures .1) _ refl)) (c .if1 .left)
 
 pub join-spec : {M : Type 1} → statement M
 join-spec =
     tie.close
     (tie.spec
-    is-sender-requires
-    refused-requires
+    place-of-requires
+    mul-seat
+    element-copy-out-seat
+    join-number-requires
+    mul-t17
+    element-set-from-after
     returns
-    seat-of-requires
-    has-joined-requires
-    refused-requires-2
-    returns-2
-    refused-requires-3
-    returns-3
-    refused-requires-4
-    returns-4
-    with-row-requires
-    done-requires
-    returns-5)
+    returns-2)

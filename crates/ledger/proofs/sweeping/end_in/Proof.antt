@@ -1,86 +1,78 @@
--- `ledger::sweeping::end_in` meets its contract: each way through is a lemma of `Answered`.
-use Rattle.ledger.proofs.Answered.{is-sender, end-1, end-15, end-16, end-18, end-19, end-done}
+-- `ledger::sweeping::end_in` meets its contract: by its number.
+use native.Mathlib.Omega.{arith}
+use Prim.Native.Nat.{_<_}
+use mathlib.Core.Path.{refl, sym, _∙_}
+use lib.ListN.{length, length-map}
+use Rattle.ledger.specs.Book.{only}
+use Rattle.ledger.specs.Seen.{rowsOf, heldIn, bookOf}
+use Rattle.ledger.proofs.Answered.{tells-refused, knows, end-done}
 use borrow.Author.Needs.{needs}
 use Rattle.ledger.proofs.sweeping.end_in.Statement.{statement}
 use Rattle.ledger.proofs.sweeping.end_in.Tie as tie
 
-is-sender-requires : tie.Need-is-sender-requires
-is-sender-requires c κs = search needs
+place-of-requires : tie.Need-place-of-requires
+place-of-requires c κs = search needs
 
-refused-requires : tie.Need-refused-requires
-refused-requires c κs = search needs
+mul-seat : tie.Need-mul-seat
+mul-seat c = search needs
 
-returns : tie.Need-returns
-returns c = search end-1
+element-copy-out-seat : tie.Need-element-copy-out-seat
+element-copy-out-seat c = search needs
 
-seat-of-requires : tie.Need-seat-of-requires
-seat-of-requires c κs = search is-sender
+end-number-requires : tie.Need-end-number-requires
+end-number-requires c κs = search needs
 
-has-joined-requires : tie.Need-has-joined-requires
-has-joined-requires c κs = search needs
+lesser-requires : tie.Need-lesser-requires
+lesser-requires c κs = search needs
 
-refused-requires-2 : tie.Need-refused-requires-2
-refused-requires-2 c κs = search needs
+take-out-requires : tie.Need-take-out-requires
+unfolding only heldIn
+take-out-requires c κs = search needs
 
-returns-2 : tie.Need-returns-2
-returns-2 c = search end-15
+ended-requires : tie.Need-ended-requires
+ended-requires c κs = search needs
 
-is-open-requires : tie.Need-is-open-requires
-is-open-requires c κs = search needs
+mul-t19 : tie.Need-mul-t19
+mul-t19 c = search needs
 
-refused-requires-3 : tie.Need-refused-requires-3
-refused-requires-3 c κs = search needs
-
-returns-3 : tie.Need-returns-3
-returns-3 c = search end-16
-
-open-slot-requires : tie.Need-open-slot-requires
-open-slot-requires c κs = search needs
-
-refused-requires-4 : tie.Need-refused-requires-4
-refused-requires-4 c κs = search needs
-
-returns-4 : tie.Need-returns-4
-returns-4 c = search end-18
-
-refused-requires-5 : tie.Need-refused-requires-5
-refused-requires-5 c κs = search needs
-
-returns-5 : tie.Need-returns-5
-returns-5 c = search end-19
-
-ended-in-requires : tie.Need-ended-in-requires
-ended-in-requires c κs = search (needs, is-sender)
-
-done-requires : tie.Need-done-requires
-done-requires c κs = search needs
+element-set-from-after : tie.Need-element-set-from-after
+element-set-from-after c = search needs
 
 same-length : tie.Need-same-length
 same-length c = search needs
 
-returns-6 : tie.Need-returns-6
-returns-6 c = search (end-done, c .before .before .before .before .before .before .before .before .before .before .before .before .before .before .before .before .before .before .is-sender .ensures, c .before .before .before .before .before .before .before .before .before .before .before .before .before .before .before .before .before .if1 .left, c .before .before .before .before .before .before .before .before .before .before .before .before .before .before .before .before .seat-of .ensures, c .before .before .before .before .before .before .before .before .before .before .before .before .before .before .before .has-joined .ensures)
+returns : tie.Need-returns
+unfolding rowsOf bookOf
+returns c =
+    let z = c .before .before .before .before .before .before .before .before .before .before .before .before .before .args in
+    let p = c .before .before .before .before .before .before .before .before .before .before .before .place-of in
+    let w = z .room .now in
+    let there : p .result < length (z .ledger .seats) = omega (arith, p .ensures, sym (length-map (z .ledger .seats) _) ∙ c .before .before .before .before .before .before .before .before .before .before .before .before .before .good .0 .1 .1 .1 .0 .1 .0 .1) in
+    end-done (z .ledger) w (z .sender .0) (p .result) (p .ensures .1) _ refl there _ (z .slot .0) (c .before .ended .ensures) (c .before .before .before .before .before .before .before .before .before .before .before .before .before .pre) _ (c .before .before .before .before .before .before .lesser .ensures) _ _ (c .before .before .before .before .take-out .ensures) _
+    (c .before .before .before .before .before .before .before .before .end-number .ensures (bookOf (z .ledger) w) refl (knows (z .ledger) w (z .sender .0) (p .result) (p .ensures .1) _ refl)) (c .before .before .before .before .before .before .before .if1 .taken)
+
+returns-2 : tie.Need-returns-2
+unfolding rowsOf bookOf
+returns-2 c =
+    let z = c .before .before .before .before .before .before .args in
+    let p = c .before .before .before .before .place-of in
+    let w = z .room .now in
+    tells-refused (z .ledger) w _ _
+    (c .before .end-number .ensures (bookOf (z .ledger) w) refl (knows (z .ledger) w (z .sender .0) (p .result) (p .ensures .1) _ refl)) (c .if1 .left)
 
 pub end-in-spec : {M : Type 1} → statement M
 end-in-spec =
     tie.close
     (tie.spec
-    is-sender-requires
-    refused-requires
-    returns
-    seat-of-requires
-    has-joined-requires
-    refused-requires-2
-    returns-2
-    is-open-requires
-    refused-requires-3
-    returns-3
-    open-slot-requires
-    refused-requires-4
-    returns-4
-    refused-requires-5
-    returns-5
-    ended-in-requires
-    done-requires
+    place-of-requires
+    mul-seat
+    element-copy-out-seat
+    end-number-requires
+    lesser-requires
+    take-out-requires
+    ended-requires
+    mul-t19
+    element-set-from-after
     same-length
-    returns-6)
+    returns
+    returns-2)

@@ -1,91 +1,69 @@
--- `ledger::sweeping::sweep_in` meets its contract: each way through is a lemma of `Answered`.
+-- `ledger::sweeping::sweep_in` meets its contract: by its number.
 use native.Mathlib.Omega.{arith}
-use Rattle.ledger.proofs.Answered.{is-sender, sender-small, sweep-1, sweep-15, sweep-17, sweep-25, sweep-done}
+use Rattle.ledger.specs.Seen.{bookOf}
+use Rattle.ledger.proofs.Answered.{held-fewer, tells-refused, knows, sweep-done}
 use borrow.Author.Needs.{needs}
 use Rattle.ledger.proofs.sweeping.sweep_in.Statement.{statement}
 use Rattle.ledger.proofs.sweeping.sweep_in.Tie as tie
 
-is-sender-requires : tie.Need-is-sender-requires
-is-sender-requires c κs = search needs
+place-of-requires : tie.Need-place-of-requires
+place-of-requires c κs = search needs
 
-refused-requires : tie.Need-refused-requires
-refused-requires c κs = search needs
+row-at-requires : tie.Need-row-at-requires
+row-at-requires c κs = search needs
 
-returns : tie.Need-returns
-returns c = search sweep-1
-
-seat-of-requires : tie.Need-seat-of-requires
-seat-of-requires c κs = search is-sender
-
-is-open-requires : tie.Need-is-open-requires
-is-open-requires c κs = search needs
-
-refused-requires-2 : tie.Need-refused-requires-2
-refused-requires-2 c κs = search needs
-
-returns-2 : tie.Need-returns-2
-returns-2 c = search sweep-15
+sweep-number-requires : tie.Need-sweep-number-requires
+sweep-number-requires c κs = search needs
 
 open-slot-requires : tie.Need-open-slot-requires
 open-slot-requires c κs = search needs
 
-refused-requires-3 : tie.Need-refused-requires-3
-refused-requires-3 c κs = search needs
-
-returns-3 : tie.Need-returns-3
-returns-3 c = search sweep-17
-
-refused-requires-4 : tie.Need-refused-requires-4
-refused-requires-4 c κs = search needs
-
-returns-4 : tie.Need-returns-4
-returns-4 c = search sweep-25
-
 word-requires : tie.Need-word-requires
-word-requires c κs = (search sender-small, omega arith)
+word-requires c κs = let f = c .before .before .sweep-number .ensures .1 (c .before .if1 .taken) in (f .0, omega (arith, c .open-slot .ensures))
 
 mul-room : tie.Need-mul-room
-mul-room c = search needs
+mul-room c = let f = c .before .before .before .sweep-number .ensures .1 (c .before .before .if1 .taken) in search needs
 
 slice-write-room : tie.Need-slice-write-room
-slice-write-room c = search needs
+slice-write-room c = let f = c .before .before .before .sweep-number .ensures .1 (c .before .before .if1 .taken) in omega arith
 
-add-holding : tie.Need-add-holding
-add-holding c = search needs
-
-holding-requires : tie.Need-holding-requires
-holding-requires c κs = search needs
-
-done-requires : tie.Need-done-requires
-done-requires c κs = search needs
+add-more : tie.Need-add-more
+add-more c = let f = c .before .before .before .sweep-number .ensures .1 (c .before .before .if1 .taken) in omega arith
 
 same-length : tie.Need-same-length
 same-length c = search needs
 
-returns-5 : tie.Need-returns-5
-returns-5 c = search sweep-done
+returns : tie.Need-returns
+unfolding bookOf
+returns c =
+    let z = c .before .before .before .before .before .before .before .before .args in
+    let p = c .before .before .before .before .before .before .place-of in
+    let w = z .room .now in
+    let n = c .before .before .before .before .sweep-number in
+    sweep-done (z .ledger) w (z .sender .0) (p .result) (p .ensures .1) _ (c .before .before .before .before .before .row-at .ensures) (c .before .before .before .before .before .before .before .before .pre) (n .ensures .1 (c .before .before .before .if1 .taken) .2) (z .tag) _ (rw (← c .before .before .open-slot .ensures) (c .before .word .ensures)) _
+    (n .ensures .0 (bookOf (z .ledger) w) (z .tag) (knows (z .ledger) w (z .sender .0) (p .result) (p .ensures .1) _ (c .before .before .before .before .before .row-at .ensures)) (held-fewer w (z .ledger .cursor .held) (c .before .before .before .before .before .before .before .before .pre))) (c .before .before .before .if1 .taken)
+
+returns-2 : tie.Need-returns-2
+unfolding bookOf
+returns-2 c =
+    let z = c .before .before .before .before .before .args in
+    let p = c .before .before .before .place-of in
+    let w = z .room .now in
+    tells-refused (z .ledger) w _ _
+    (c .before .sweep-number .ensures .0 (bookOf (z .ledger) w) (z .tag) (knows (z .ledger) w (z .sender .0) (p .result) (p .ensures .1) _ (c .before .before .row-at .ensures)) (held-fewer w (z .ledger .cursor .held) (c .before .before .before .before .before .pre))) (c .if1 .left)
 
 pub sweep-in-spec : {M : Type 1} → statement M
 sweep-in-spec =
     tie.close
     (tie.spec
-    is-sender-requires
-    refused-requires
-    returns
-    seat-of-requires
-    is-open-requires
-    refused-requires-2
-    returns-2
+    place-of-requires
+    row-at-requires
+    sweep-number-requires
     open-slot-requires
-    refused-requires-3
-    returns-3
-    refused-requires-4
-    returns-4
     word-requires
     mul-room
     slice-write-room
-    add-holding
-    holding-requires
-    done-requires
+    add-more
     same-length
-    returns-5)
+    returns
+    returns-2)

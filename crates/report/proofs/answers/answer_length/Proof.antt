@@ -4,27 +4,19 @@ use Rattle.report.proofs.AnswerLines.{line-measured}
 use borrow.Author.Needs.{needs}
 use Rattle.report.proofs.answers.answer_length.Statement.{statement}
 use Rattle.report.proofs.answers.answer_length.Tie as tie
-use Rattle.report.proofs.answers.answer_length.Reads as reads
-use Rattle.report.proofs.answers.answer_length.Lts as lts
-use Rattle.runtext.proofs.decimal.number_length.Reads as number-length-reads
 
--- src/answers.rt:28:10
 number-length-requires : tie.Need-number-length-requires
 number-length-requires c κs = search needs
 
--- src/answers.rt:28:5
 add-result : tie.Need-add-result
 add-result c = omega (arith, c .number-length .ensures, digits-length (c .before .args .line))
 
--- src/answers.rt:28:32
 number-length-requires-2 : tie.Need-number-length-requires-2
 number-length-requires-2 c κs = search needs
 
--- src/answers.rt:28:5
 add-result-2 : tie.Need-add-result-2
 add-result-2 c = omega (arith, c .before .number-length .ensures, c .number-length2 .ensures, digits-length (c .before .before .args .line), digits-length (c .before .before .args .answer))
 
--- src/answers.rt:25:1
 returns : tie.Need-returns
 returns c = search line-measured
 

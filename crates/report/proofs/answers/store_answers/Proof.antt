@@ -4,9 +4,6 @@ use lib.ListN.{length}
 use Rattle.report.proofs.AnswerLines.{Storing, storing-none, storing-room, storing-more, storing-all}
 use Rattle.report.proofs.answers.store_answers.Statement.{statement}
 use Rattle.report.proofs.answers.store_answers.Tie as tie
-use Rattle.report.proofs.answers.store_answers.Reads as reads
-use Rattle.report.proofs.answers.store_answers.Lts as lts
-use Rattle.report.proofs.answers.store_answer.Reads as store-answer-reads
 
 abbrev Inv-loop : tie.InvT-loop
 Inv-loop room₀ answers at₀ i₀ room at i = Storing room₀ answers room at i
@@ -14,43 +11,33 @@ Inv-loop room₀ answers at₀ i₀ room at i = Storing room₀ answers room at 
 abbrev μ-loop : tie.MeasureT-loop
 μ-loop room₀ answers at₀ i₀ room at i = length answers - i
 
--- src/answers.rt:39:5
 loop-holds : tie.Need-loop-holds Inv-loop μ-loop
 loop-holds c = search storing-none
 
--- src/answers.rt:40:37
 cast-store-answer : tie.Need-cast-store-answer Inv-loop μ-loop
 cast-store-answer c = search needs
 
--- src/answers.rt:40:37
 add-store-answer : tie.Need-add-store-answer Inv-loop μ-loop
 add-store-answer c = search needs
 
--- src/answers.rt:40:51
 shared-slice-read-store-answer : tie.Need-shared-slice-read-store-answer Inv-loop μ-loop
 shared-slice-read-store-answer c = search needs
 
--- src/answers.rt:40:9
 store-answer-requires : tie.Need-store-answer-requires Inv-loop μ-loop
 store-answer-requires c κs = search storing-room
 
--- src/answers.rt:41:9
 add-i : tie.Need-add-i Inv-loop μ-loop
 add-i c = search needs
 
--- src/answers.rt:39:5
 loop-less : tie.Need-loop-less Inv-loop μ-loop
 loop-less c = search needs
 
--- src/answers.rt:39:5
 loop-again : tie.Need-loop-again Inv-loop μ-loop
 loop-again c = search storing-more
 
--- src/answers.rt:32:1
 same-length : tie.Need-same-length Inv-loop μ-loop
 same-length c = c .before .loop .inv .left .long
 
--- src/answers.rt:32:1
 returns : tie.Need-returns Inv-loop μ-loop
 returns c = search storing-all
 

@@ -4,108 +4,81 @@ use Rattle.report.specs.Report.{stateText}
 use borrow.Author.Needs.{needs}
 use Rattle.report.proofs.benches.put_state.Statement.{statement}
 use Rattle.report.proofs.benches.put_state.Tie as tie
-use Rattle.report.proofs.benches.put_state.Reads as reads
-use Rattle.report.proofs.benches.put_state.Lts as lts
-use Rattle.runtext.proofs.bytes.put_bytes.Reads as put-bytes-reads
 
--- src/benches.rt:50:34
 slice-aggregate-put-bytes : tie.Need-slice-aggregate-put-bytes
 slice-aggregate-put-bytes c = search needs
 
--- src/benches.rt:50:14
 put-bytes-requires : tie.Need-put-bytes-requires
 put-bytes-requires c κs = search needs
 
--- src/benches.rt:51:34
 slice-aggregate-put-bytes-2 : tie.Need-slice-aggregate-put-bytes-2
 slice-aggregate-put-bytes-2 c = search needs
 
--- src/benches.rt:51:14
 put-bytes-requires-2 : tie.Need-put-bytes-requires-2
 put-bytes-requires-2 c κs = search needs
 
--- src/benches.rt:52:34
 slice-aggregate-put-bytes-3 : tie.Need-slice-aggregate-put-bytes-3
 slice-aggregate-put-bytes-3 c = search needs
 
--- src/benches.rt:52:14
 put-bytes-requires-3 : tie.Need-put-bytes-requires-3
 put-bytes-requires-3 c κs = search needs
 
--- src/benches.rt:53:34
 slice-aggregate-put-bytes-4 : tie.Need-slice-aggregate-put-bytes-4
 slice-aggregate-put-bytes-4 c = search needs
 
--- src/benches.rt:53:14
 put-bytes-requires-4 : tie.Need-put-bytes-requires-4
 put-bytes-requires-4 c κs = search needs
 
--- src/benches.rt:54:34
 slice-aggregate-put-bytes-5 : tie.Need-slice-aggregate-put-bytes-5
 slice-aggregate-put-bytes-5 c = search needs
 
--- src/benches.rt:54:14
 put-bytes-requires-5 : tie.Need-put-bytes-requires-5
 put-bytes-requires-5 c κs = search needs
 
--- src/benches.rt:55:34
 slice-aggregate-put-bytes-6 : tie.Need-slice-aggregate-put-bytes-6
 slice-aggregate-put-bytes-6 c = search needs
 
--- src/benches.rt:55:14
 put-bytes-requires-6 : tie.Need-put-bytes-requires-6
 put-bytes-requires-6 c κs = search needs
 
--- src/benches.rt:46:1
 same-length : tie.Need-same-length
 same-length c = search needs
 
--- src/benches.rt:46:1
 returns : tie.Need-returns
 unfolding stateText stateOf
 returns c = state-put _ 0 (c .before .before .before .before .before .match .keys1) (c .before .before .put-bytes .ensures)
 
--- src/benches.rt:46:1
 same-length-2 : tie.Need-same-length-2
 same-length-2 c = search needs
 
--- src/benches.rt:46:1
 returns-2 : tie.Need-returns-2
 unfolding stateText stateOf
 returns-2 c = state-put _ 1 (c .before .before .before .before .before .match .keys2) (c .before .before .put-bytes2 .ensures)
 
--- src/benches.rt:46:1
 same-length-3 : tie.Need-same-length-3
 same-length-3 c = search needs
 
--- src/benches.rt:46:1
 returns-3 : tie.Need-returns-3
 unfolding stateText stateOf
 returns-3 c = state-put _ 2 (c .before .before .before .before .before .match .keys3) (c .before .before .put-bytes3 .ensures)
 
--- src/benches.rt:46:1
 same-length-4 : tie.Need-same-length-4
 same-length-4 c = search needs
 
--- src/benches.rt:46:1
 returns-4 : tie.Need-returns-4
 unfolding stateText stateOf
 returns-4 c = state-put _ 3 (c .before .before .before .before .before .match .keys4) (c .before .before .put-bytes4 .ensures)
 
--- src/benches.rt:46:1
 same-length-5 : tie.Need-same-length-5
 same-length-5 c = search needs
 
--- src/benches.rt:46:1
 returns-5 : tie.Need-returns-5
 unfolding stateText stateOf
 returns-5 c = state-put _ 4 (c .before .before .before .before .before .match .keys5) (c .before .before .put-bytes5 .ensures)
 
--- src/benches.rt:46:1
 same-length-6 : tie.Need-same-length-6
 same-length-6 c = search needs
 
--- src/benches.rt:46:1
 returns-6 : tie.Need-returns-6
 unfolding stateText stateOf
 returns-6 c = let r = c .before .before .before .before .before .match .rest in failed-put _ (r .0 .0 .0 .0 .1) (r .0 .0 .0 .1) (r .0 .0 .1) (r .0 .1) (r .1) (c .before .before .put-bytes6 .ensures)

@@ -5,45 +5,32 @@ use Rattle.report.specs.Report.{valueText}
 use borrow.Author.Needs.{needs}
 use Rattle.report.proofs.benches.put_value.Statement.{statement}
 use Rattle.report.proofs.benches.put_value.Tie as tie
-use Rattle.report.proofs.benches.put_value.Reads as reads
-use Rattle.report.proofs.benches.put_value.Lts as lts
-use Rattle.runtext.proofs.bytes.put_bytes.Reads as put-bytes-reads
-use Rattle.runtext.proofs.decimal.put_number.Reads as put-number-reads
 
--- src/benches.rt:63:37
 enum-told : tie.Need-enum-told
 enum-told c = search needs
 
--- src/benches.rt:63:47
 slice-aggregate-put-bytes : tie.Need-slice-aggregate-put-bytes
 slice-aggregate-put-bytes c = search needs
 
--- src/benches.rt:63:27
 put-bytes-requires : tie.Need-put-bytes-requires
 put-bytes-requires c κs = search needs
 
--- src/benches.rt:64:26
 enum-known-decision : tie.Need-enum-known-decision
 enum-known-decision c = search needs
 
--- src/benches.rt:64:36
 put-number-requires : tie.Need-put-number-requires
 put-number-requires c κs = search needs
 
--- src/benches.rt:59:1
 same-length : tie.Need-same-length
 same-length c = search needs
 
--- src/benches.rt:59:1
 returns : tie.Need-returns
 unfolding valueText decisionIs
 returns c = value-put _ None (c .before .before .before .before .before .enum-told .given .1) (c .before .before .put-bytes .ensures)
 
--- src/benches.rt:59:1
 same-length-2 : tie.Need-same-length-2
 same-length-2 c = search needs
 
--- src/benches.rt:59:1
 returns-2 : tie.Need-returns-2
 unfolding valueText decisionIs
 returns-2 c = value-put _ (Chosen _) (c .before .before .before .before .before .decision .given .1) (c .before .before .put-number .ensures)

@@ -2,85 +2,58 @@ use Rattle.report.proofs.BenchLines.{fresh-stored, row-stored}
 use borrow.Author.Needs.{needs}
 use Rattle.report.proofs.benches.store_bench.Statement.{statement}
 use Rattle.report.proofs.benches.store_bench.Tie as tie
-use Rattle.report.proofs.benches.store_bench.Reads as reads
-use Rattle.report.proofs.benches.store_bench.Lts as lts
-use Rattle.report.proofs.benches.put_state.Reads as put-state-reads
-use Rattle.report.proofs.benches.put_value.Reads as put-value-reads
-use Rattle.rounds.proofs.decision_of.Reads as decision-of-reads
-use Rattle.rounds.proofs.sent_of.Reads as sent-of-reads
-use Rattle.rounds.proofs.state_of.Reads as state-of-reads
-use Rattle.runtext.proofs.bytes.put_bytes.Reads as put-bytes-reads
-use Rattle.runtext.proofs.decimal.put_field.Reads as put-field-reads
 
--- src/benches.rt:34:9
 state-of-requires : tie.Need-state-of-requires
 state-of-requires c κs = search needs
 
--- src/benches.rt:36:9
 returns : tie.Need-returns
 returns c = search fresh-stored
 
--- src/benches.rt:38:9
 sent-of-requires : tie.Need-sent-of-requires
 sent-of-requires c κs = search needs
 
--- src/benches.rt:39:9
 decision-of-requires : tie.Need-decision-of-requires
 decision-of-requires c κs = search needs
 
--- src/benches.rt:40:33
 slice-aggregate-put-field : tie.Need-slice-aggregate-put-field
 slice-aggregate-put-field c = search needs
 
--- src/benches.rt:40:9
 put-field-requires : tie.Need-put-field-requires
 put-field-requires c κs = search needs
 
--- src/benches.rt:41:32
 slice-aggregate-put-bytes : tie.Need-slice-aggregate-put-bytes
 slice-aggregate-put-bytes c = search needs
 
--- src/benches.rt:41:9
 put-bytes-requires : tie.Need-put-bytes-requires
 put-bytes-requires c κs = search needs
 
--- src/benches.rt:42:9
 put-state-requires : tie.Need-put-state-requires
 put-state-requires c κs = search needs
 
--- src/benches.rt:43:32
 slice-aggregate-put-field-2 : tie.Need-slice-aggregate-put-field-2
 slice-aggregate-put-field-2 c = search needs
 
--- src/benches.rt:43:9
 put-field-requires-2 : tie.Need-put-field-requires-2
 put-field-requires-2 c κs = search needs
 
--- src/benches.rt:44:32
 slice-aggregate-put-bytes-2 : tie.Need-slice-aggregate-put-bytes-2
 slice-aggregate-put-bytes-2 c = search needs
 
--- src/benches.rt:44:9
 put-bytes-requires-2 : tie.Need-put-bytes-requires-2
 put-bytes-requires-2 c κs = search needs
 
--- src/benches.rt:45:9
 put-value-requires : tie.Need-put-value-requires
 put-value-requires c κs = search needs
 
--- src/benches.rt:46:24
 slice-aggregate-put-bytes-3 : tie.Need-slice-aggregate-put-bytes-3
 slice-aggregate-put-bytes-3 c = search needs
 
--- src/benches.rt:46:5
 put-bytes-requires-3 : tie.Need-put-bytes-requires-3
 put-bytes-requires-3 c κs = search needs
 
--- src/benches.rt:30:1
 same-length : tie.Need-same-length
 same-length c = search needs
 
--- src/benches.rt:30:1
 returns-2 : tie.Need-returns-2
 returns-2 c =
     let p₇ = c .before .before in

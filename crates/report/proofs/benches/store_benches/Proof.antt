@@ -4,9 +4,6 @@ use Rattle.runtext.proofs.Stores.{stored-length}
 use Rattle.report.proofs.BenchLines.{Listed, listed-none, listed-room, listed-more, listed-all}
 use Rattle.report.proofs.benches.store_benches.Statement.{statement}
 use Rattle.report.proofs.benches.store_benches.Tie as tie
-use Rattle.report.proofs.benches.store_benches.Reads as reads
-use Rattle.report.proofs.benches.store_benches.Lts as lts
-use Rattle.report.proofs.benches.store_bench.Reads as store-bench-reads
 
 abbrev Inv-loop : tie.InvT-loop
 Inv-loop room₀ benches at₀ k₀ room at k = Listed room₀ benches room at k
@@ -14,35 +11,27 @@ Inv-loop room₀ benches at₀ k₀ room at k = Listed room₀ benches room at k
 abbrev μ-loop : tie.MeasureT-loop
 μ-loop room₀ benches at₀ k₀ room at k = 16 - k
 
--- src/benches.rt:22:5
 loop-holds : tie.Need-loop-holds Inv-loop μ-loop
 loop-holds c = search listed-none
 
--- src/benches.rt:23:17
 add-b : tie.Need-add-b Inv-loop μ-loop
 add-b c = search needs
 
--- src/benches.rt:24:9
 store-bench-requires : tie.Need-store-bench-requires Inv-loop μ-loop
 store-bench-requires c κs = search listed-room
 
--- src/benches.rt:22:9
 add-k : tie.Need-add-k Inv-loop μ-loop
 add-k c = search needs
 
--- src/benches.rt:22:5
 loop-less : tie.Need-loop-less Inv-loop μ-loop
 loop-less c = search needs
 
--- src/benches.rt:22:5
 loop-again : tie.Need-loop-again Inv-loop μ-loop
 loop-again c = search listed-more
 
--- src/benches.rt:17:1
 same-length : tie.Need-same-length Inv-loop μ-loop
 same-length c = stored-length (c .before .loop .inv .stored)
 
--- src/benches.rt:17:1
 returns : tie.Need-returns Inv-loop μ-loop
 returns c = search listed-all
 

@@ -2,27 +2,19 @@ use Rattle.report.proofs.Played.{does-links, malformed-links}
 use borrow.Author.Needs.{needs}
 use Rattle.report.proofs.playing.answer_to.Statement.{statement}
 use Rattle.report.proofs.playing.answer_to.Tie as tie
-use Rattle.report.proofs.playing.answer_to.Reads as reads
-use Rattle.report.proofs.playing.answer_to.Lts as lts
-use Rattle.rounds.proofs.step.Reads as step-reads
 
--- src/playing.rt:40:20
 enum-known-line : tie.Need-enum-known-line
 enum-known-line c = search needs
 
--- src/playing.rt:40:26
 step-requires : tie.Need-step-requires
 step-requires c κs = search needs
 
--- src/playing.rt:41:28
 enum-told : tie.Need-enum-told
 enum-told c = search needs
 
--- src/playing.rt:35:1
 returns : tie.Need-returns
 returns c = does-links _ _ (c .before .before .before .before .before .before .pre) _ _ (c .before .before .before .before .line .given .1) _ _ _ (c .step .ensures)
 
--- src/playing.rt:35:1
 returns-2 : tie.Need-returns-2
 returns-2 c = malformed-links _ _ (c .before .before .pre) _ (c .enum-told .given .1)
 

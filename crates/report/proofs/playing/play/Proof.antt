@@ -1,15 +1,10 @@
 use Prim.Native.Nat.{_-_}
-use native.Mathlib.Omega.{arith}
 use mathlib.Core.Path.{sym, _∙_}
 use lib.ListN.{length}
 use borrow.Author.Needs.{needs}
 use Rattle.report.proofs.Played.{Playing, playing-none, playing-room, playing-less, playing-more, playing-all}
 use Rattle.report.proofs.playing.play.Statement.{statement}
 use Rattle.report.proofs.playing.play.Tie as tie
-use Rattle.report.proofs.playing.play.Reads as reads
-use Rattle.report.proofs.playing.play.Lts as lts
-use Rattle.report.proofs.playing.answer_to.Reads as answer-to-reads
-use Rattle.runtext.proofs.read_line.Reads as read-line-reads
 
 abbrev Inv-loop : tie.InvT-loop
 Inv-loop text benches₀ logs₀ answers₀ at₀ count₀ benches logs answers at count = Playing text answers₀ benches logs answers at count
@@ -17,47 +12,36 @@ Inv-loop text benches₀ logs₀ answers₀ at₀ count₀ benches logs answers 
 abbrev μ-loop : tie.MeasureT-loop
 μ-loop text benches₀ logs₀ answers₀ at₀ count₀ benches logs answers at count = length text - at
 
--- src/playing.rt:24:5
 loop-holds : tie.Need-loop-holds Inv-loop μ-loop
 loop-holds c = search playing-none
 
--- src/playing.rt:25:38
 read-line-requires : tie.Need-read-line-requires Inv-loop μ-loop
 read-line-requires c κs = search needs
 
--- src/playing.rt:25:24
 enum-known-line : tie.Need-enum-known-line Inv-loop μ-loop
 enum-known-line c = search needs
 
--- src/playing.rt:26:13
 enum-told : tie.Need-enum-told Inv-loop μ-loop
 enum-told c = search needs
 
--- src/playing.rt:26:13
 same-length : tie.Need-same-length Inv-loop μ-loop
 same-length c = c .before .before .before .loop .inv .long
 
--- src/playing.rt:26:13
 returns : tie.Need-returns Inv-loop μ-loop
 returns c = playing-all _ _ _ _ _ _ _ (c .before .before .before .loop .inv) (sym (c .before .before .read-line .ensures) ∙ c .enum-told .given .1)
 
--- src/playing.rt:28:26
 answer-to-requires : tie.Need-answer-to-requires Inv-loop μ-loop
 answer-to-requires c κs = c .before .before .before .before .before .before .loop .inv .sound
 
--- src/playing.rt:28:9
 slice-write-answers : tie.Need-slice-write-answers Inv-loop μ-loop
 slice-write-answers c = playing-room _ _ _ _ _ _ _ (c .before .before .before .before .before .before .before .loop .inv) _ _ (sym (c .before .before .before .before .before .before .read-line .ensures) ∙ c .before .before .before .before .line .given .1)
 
--- src/playing.rt:29:9
 add-count : tie.Need-add-count Inv-loop μ-loop
 add-count c = search needs
 
--- src/playing.rt:24:5
 loop-less : tie.Need-loop-less Inv-loop μ-loop
 loop-less c = playing-less _ _ _ _ _ _ _ (c .before .before .before .before .before .before .before .loop .inv) _ _ (sym (c .before .before .before .before .before .before .read-line .ensures) ∙ c .before .before .before .before .line .given .1)
 
--- src/playing.rt:24:5
 loop-again : tie.Need-loop-again Inv-loop μ-loop
 loop-again c = playing-more _ _ _ _ _ _ _ (c .before .before .before .before .before .before .before .loop .inv) _ _ (sym (c .before .before .before .before .before .before .read-line .ensures) ∙ c .before .before .before .before .line .given .1) _ _ _ (c .answer-to .ensures)
 

@@ -1,14 +1,10 @@
 use borrow.Author.Tests.{eq-eqb, ne-eqb}
 use Rattle.report.proofs.totals.refusal.Statement.{statement}
 use Rattle.report.proofs.totals.refusal.Tie as tie
-use Rattle.report.proofs.totals.refusal.Reads as reads
-use Rattle.report.proofs.totals.refusal.Lts as lts
 
--- src/totals.rt:41:9
 returns : tie.Need-returns
 returns c = simp (eq-eqb _ _ (c .if1 .taken))
 
--- src/totals.rt:37:1
 returns-2 : tie.Need-returns-2
 returns-2 c = simp (ne-eqb _ _ (c .if1 .left))
 

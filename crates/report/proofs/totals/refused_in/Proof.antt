@@ -6,9 +6,6 @@ use lib.ListN.{length, getD}
 use Rattle.report.proofs.TotalsLine.{Counted, counted-none, counted-more, counted-all, one-or-none}
 use Rattle.report.proofs.totals.refused_in.Statement.{statement}
 use Rattle.report.proofs.totals.refused_in.Tie as tie
-use Rattle.report.proofs.totals.refused_in.Reads as reads
-use Rattle.report.proofs.totals.refused_in.Lts as lts
-use Rattle.report.proofs.totals.refusal.Reads as refusal-reads
 
 abbrev Inv-loop : tie.InvT-loop
 Inv-loop answers n₀ i₀ n i = Counted answers i n
@@ -16,35 +13,27 @@ Inv-loop answers n₀ i₀ n i = Counted answers i n
 abbrev μ-loop : tie.MeasureT-loop
 μ-loop answers n₀ i₀ n i = length answers - i
 
--- src/totals.rt:30:5
 loop-holds : tie.Need-loop-holds Inv-loop μ-loop
 loop-holds c = search counted-none
 
--- src/totals.rt:31:22
 shared-slice-read-refusal : tie.Need-shared-slice-read-refusal Inv-loop μ-loop
 shared-slice-read-refusal c = search needs
 
--- src/totals.rt:31:14
 refusal-requires : tie.Need-refusal-requires Inv-loop μ-loop
 refusal-requires c κs = search needs
 
--- src/totals.rt:31:9
 add-n : tie.Need-add-n Inv-loop μ-loop
 add-n c = omega (arith, one-or-none (getD (now (c .before .before .before .before .before .args .answers)) (c .before .before .before .loop .i) 0) _ (c .refusal .ensures))
 
--- src/totals.rt:32:9
 add-i : tie.Need-add-i Inv-loop μ-loop
 add-i c = search needs
 
--- src/totals.rt:30:5
 loop-less : tie.Need-loop-less Inv-loop μ-loop
 loop-less c = search needs
 
--- src/totals.rt:30:5
 loop-again : tie.Need-loop-again Inv-loop μ-loop
 loop-again c = search counted-more
 
--- src/totals.rt:24:1
 returns : tie.Need-returns Inv-loop μ-loop
 returns c = search counted-all
 

@@ -14,7 +14,9 @@ state-at-requires-2 : tie.Need-state-at-requires-2
 state-at-requires-2 c κs = search needs
 
 returns-2 : tie.Need-returns-2
-returns-2 c = notice-early _ _ _ _ _ (c .before .before .before .before .state-at .ensures) (c .before .before .before .if1 .left) _ (c .before .state-at2 .ensures) (c .if2 .taken)
+returns-2 c =
+    let live = c .before .before .before in
+    notice-early _ _ _ _ _ (live .before .state-at .ensures) (live .if1 .left) _ (c .before .state-at2 .ensures) (c .if2 .taken)
 
 noticed-at-requires : tie.Need-noticed-at-requires
 noticed-at-requires c κs = search needs
@@ -24,16 +26,21 @@ has-requires c κs = search needs
 
 returns-3 : tie.Need-returns-3
 returns-3 c =
-    notice-again _ _ _ _ _ (c .before .before .before .before .before .before .before .before .state-at .ensures) (c .before .before .before .before .before .before .before .if1 .left) _ (c .before .before .before .before .before .state-at2 .ensures) (c .before .before .before .before .if2 .left) _ _ (c .before .before .noticed-at .ensures) (c .before .has .ensures)
-    (c .if3 .taken)
+    let failed = c .before .before .before .before in
+    let live = failed .before .before .before in
+    notice-again _ _ _ _ _ (live .before .state-at .ensures) (live .if1 .left) _ (failed .before .state-at2 .ensures) (failed .if2 .left)
+    _ _ (c .before .before .noticed-at .ensures) (c .before .has .ensures) (c .if3 .taken)
 
 put-notice-requires : tie.Need-put-notice-requires
 put-notice-requires c κs = search needs
 
 returns-4 : tie.Need-returns-4
 returns-4 c =
-    notice-done _ _ _ _ _ (c .before .before .before .before .before .before .before .before .before .before .state-at .ensures) (c .before .before .before .before .before .before .before .before .before .if1 .left) _ (c .before .before .before .before .before .before .before .state-at2 .ensures) (c .before .before .before .before .before .before .if2 .left) _ _ (c .before .before .before .before .noticed-at .ensures) (c .before .before .before .has .ensures)
-    _ (c .before .before .if3 .left) (c .put-notice .ensures)
+    let unclosed = c .before .before in
+    let failed = unclosed .before .before .before .before in
+    let live = failed .before .before .before in
+    notice-done _ _ _ _ _ (live .before .state-at .ensures) (live .if1 .left) _ (failed .before .state-at2 .ensures) (failed .if2 .left)
+    _ _ (unclosed .before .before .noticed-at .ensures) (unclosed .before .has .ensures) _ (unclosed .if3 .left) (c .put-notice .ensures)
 
 pub notice-at-spec : {M : Type 1} → statement M
 notice-at-spec =

@@ -1,6 +1,5 @@
 -- `begin`: by what `load` and `send` promise.
 use Rattle.rounds.proofs.Sending.{keeps-round}
--- `begin`: by what `load` and `send` promise.
 use Rattle.bench.specs.Changes.{inRound}
 use borrow.Author.Needs.{needs}
 use Rattle.rounds.proofs.sends.begin.Statement.{statement}

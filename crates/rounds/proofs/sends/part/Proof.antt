@@ -1,6 +1,5 @@
 -- `part`: by what `load` and `send` promise.
 use Rattle.rounds.proofs.Sending.{keeps-state}
--- `part`: by what `load` and `send` promise.
 use Rattle.bench.specs.Changes.{inState}
 use borrow.Author.Needs.{needs}
 use Rattle.rounds.proofs.sends.part.Statement.{statement}

@@ -33,8 +33,13 @@ shuts-out-requires c κs = search needs
 
 returns-6 : tie.Need-returns-6
 returns-6 c =
-    start-shut _ _ _ _ _ _ (c .before .before .before .before .before .before .before .before .before .before .before .before .before .state-at .ensures) (c .before .before .before .before .before .before .before .before .before .before .before .before .if1 .left) (c .before .before .before .before .before .before .before .before .before .before .if2 .left) (c .before .before .before .before .before .before .before .before .before .if3 .left) _ (c .before .before .before .before .before .before .before .before .has .ensures) (c .before .before .before .before .before .before .before .if4 .left) _
-    (c .before .before .before .before .before .leaves-out .ensures) (c .before .before .before .before .if5 .left) _ (c .before .shuts-out .ensures) (c .if6 .taken)
+    let whole = c .before .before .before .before in
+    let inside = whole .before .before .before in
+    let below = inside .before .before in
+    let slot = below .before in
+    let fresh = slot .before .before in
+    start-shut _ _ _ _ _ _ (fresh .before .state-at .ensures) (fresh .if1 .left) (slot .if2 .left) (below .if3 .left) _ (inside .before .has .ensures) (inside .if4 .left)
+    _ (whole .before .leaves-out .ensures) (whole .if5 .left) _ (c .before .shuts-out .ensures) (c .if6 .taken)
 
 begin-requires : tie.Need-begin-requires
 begin-requires c κs = search needs

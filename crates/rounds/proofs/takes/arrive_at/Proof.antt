@@ -17,7 +17,9 @@ has-requires : tie.Need-has-requires
 has-requires c κs = search needs
 
 returns-2 : tie.Need-returns-2
-returns-2 c = arrive-closed _ _ _ _ _ (c .before .before .before .before .before .state-at .ensures) (c .before .before .before .before .if1 .left) _ _ (c .before .before .noticed-at .ensures) (c .before .has .ensures) (c .if2 .taken)
+returns-2 c =
+    let live = c .before .before .before .before in
+    arrive-closed _ _ _ _ _ (live .before .state-at .ensures) (live .if1 .left) _ _ (c .before .before .noticed-at .ensures) (c .before .has .ensures) (c .if2 .taken)
 
 taken-at-requires : tie.Need-taken-at-requires
 taken-at-requires c κs = search needs
@@ -48,14 +50,28 @@ enum-told c = search needs
 
 returns-3 : tie.Need-returns-3
 returns-3 c =
-    arrive-takes _ _ _ _ _ (c .before .before .before .before .before .before .before .before .before .before .before .before .before .before .before .before .before .before .before .before .before .state-at .ensures) (c .before .before .before .before .before .before .before .before .before .before .before .before .before .before .before .before .before .before .before .before .if1 .left) _ _ (c .before .before .before .before .before .before .before .before .before .before .before .before .before .before .before .before .before .before .noticed-at .ensures) (c .before .before .before .before .before .before .before .before .before .before .before .before .before .before .before .before .before .has .ensures) (c .before .before .before .before .before .before .before .before .before .before .before .before .before .before .before .before .if2 .left) _ _ _ _ _ _
-    (c .before .before .before .before .before .before .before .before .before .before .before .before .before .before .taken-at .ensures) (c .before .before .before .before .before .before .before .before .before .before .before .before .outs-at .ensures) (c .before .before .before .before .before .before .before .before .before .before .before .has2 .ensures) (c .before .before .before .before .before .before .before .before .before .sent-at .ensures) (c .before .before .before .before .before .before .before .out-at .ensures) (c .before .before .before .before .before .next-on .ensures)
+    let waits = c .before .before .before .before .before in
+    let out = waits .before .before in
+    let sent = out .before .before in
+    let outs = sent .before .before in
+    let taken = outs .before .before .before in
+    let unclosed = taken .before .before in
+    let live = unclosed .before .before .before .before in
+    arrive-takes _ _ _ _ _ (live .before .state-at .ensures) (live .if1 .left) _ _ (unclosed .before .before .noticed-at .ensures) (unclosed .before .has .ensures) (unclosed .if2 .left)
+    _ _ _ _ _ _ (taken .taken-at .ensures) (outs .before .outs-at .ensures) (outs .has2 .ensures) (sent .sent-at .ensures) (out .out-at .ensures) (waits .next-on .ensures)
     _ _ (c .before .before .before .m .given .1) (c .put-take .ensures)
 
 returns-4 : tie.Need-returns-4
 returns-4 c =
-    arrive-empty _ _ _ _ _ (c .before .before .before .before .before .before .before .before .before .before .before .before .before .before .before .before .before .before .state-at .ensures) (c .before .before .before .before .before .before .before .before .before .before .before .before .before .before .before .before .before .if1 .left) _ _ (c .before .before .before .before .before .before .before .before .before .before .before .before .before .before .before .noticed-at .ensures) (c .before .before .before .before .before .before .before .before .before .before .before .before .before .before .has .ensures) (c .before .before .before .before .before .before .before .before .before .before .before .before .before .if2 .left) _ _ _ _ _ _
-    (c .before .before .before .before .before .before .before .before .before .before .before .taken-at .ensures) (c .before .before .before .before .before .before .before .before .before .outs-at .ensures) (c .before .before .before .before .before .before .before .before .has2 .ensures) (c .before .before .before .before .before .before .sent-at .ensures) (c .before .before .before .before .out-at .ensures) (c .before .before .next-on .ensures)
+    let waits = c .before .before in
+    let out = waits .before .before in
+    let sent = out .before .before in
+    let outs = sent .before .before in
+    let taken = outs .before .before .before in
+    let unclosed = taken .before .before in
+    let live = unclosed .before .before .before .before in
+    arrive-empty _ _ _ _ _ (live .before .state-at .ensures) (live .if1 .left) _ _ (unclosed .before .before .noticed-at .ensures) (unclosed .before .has .ensures) (unclosed .if2 .left)
+    _ _ _ _ _ _ (taken .taken-at .ensures) (outs .before .outs-at .ensures) (outs .has2 .ensures) (sent .sent-at .ensures) (out .out-at .ensures) (waits .next-on .ensures)
     (c .enum-told .given .1)
 
 pub arrive-at-spec : {M : Type 1} → statement M

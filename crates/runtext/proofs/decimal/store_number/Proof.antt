@@ -1,67 +1,81 @@
--- `store_number` meets its contract. A number is its digits above the last five and those. Assumes nothing.
-use native.Mathlib.Omega.{arith}
-use mathlib.Core.Path.{ap}
-use lib.ListN.{length}
-use Rattle.runtext.specs.Storing.{high, low}
-use Rattle.runtext.proofs.Stores.{room-front, room-after, stored-one, stored-then}
-use Rattle.runtext.proofs.Decimals.{digits-small, digits-low, high-low}
+-- `store_number` meets its contract. By how many digits the number has. Assumes nothing.
 use borrow.Author.Needs.{needs}
 use Rattle.runtext.proofs.decimal.store_number.Statement.{statement}
 use Rattle.runtext.proofs.decimal.store_number.Tie as tie
 
-cast-room : tie.Need-cast-room
-cast-room c = search needs
-
-add-room : tie.Need-add-room
-add-room c = search needs
-
-slice-write-room : tie.Need-slice-write-room
-slice-write-room c = omega (arith, ap length (digits-small _ (c .if1 .taken)))
-
-add-result : tie.Need-add-result
-add-result c = search needs
+store-digit-requires : tie.Need-store-digit-requires
+store-digit-requires c κs = search needs
 
 same-length : tie.Need-same-length
 same-length c = search needs
 
 returns : tie.Need-returns
-returns c = rw (digits-small _ (c .if1 .taken)) (stored-one _ _ _)
+returns c = search needs
 
-store-low-requires : tie.Need-store-low-requires
-store-low-requires c κs = rw (digits-low _ (c .before .if2 .taken)) at (c .before .before .before .before .pre)
+store-tens-requires : tie.Need-store-tens-requires
+store-tens-requires c κs = search needs
 
 same-length-2 : tie.Need-same-length-2
 same-length-2 c = search needs
 
 returns-2 : tie.Need-returns-2
-returns-2 c = rw (digits-low _ (c .before .before .before .before .if2 .taken)) (c .before .before .store-low .ensures)
+returns-2 c = search needs
 
-store-high-requires : tie.Need-store-high-requires
-store-high-requires c κs = room-front _ (high _) (low _) (rw (high-low _) at (c .before .before .before .before .pre))
-
-store-low-requires-2 : tie.Need-store-low-requires-2
-store-low-requires-2 c κs = room-after (low _) (c .before .before .before .store-high .ensures) (rw (high-low _) at (c .before .before .before .before .before .before .before .before .pre))
+store-hundreds-requires : tie.Need-store-hundreds-requires
+store-hundreds-requires c κs = search needs
 
 same-length-3 : tie.Need-same-length-3
 same-length-3 c = search needs
 
 returns-3 : tie.Need-returns-3
-returns-3 c = rw (high-low _) (stored-then (c .before .before .before .before .before .before .store-high .ensures) (c .before .before .store-low2 .ensures))
+returns-3 c = search needs
+
+store-thousands-requires : tie.Need-store-thousands-requires
+store-thousands-requires c κs = search needs
+
+same-length-4 : tie.Need-same-length-4
+same-length-4 c = search needs
+
+returns-4 : tie.Need-returns-4
+returns-4 c = search needs
+
+store-ten-thousands-requires : tie.Need-store-ten-thousands-requires
+store-ten-thousands-requires c κs = search needs
+
+same-length-5 : tie.Need-same-length-5
+same-length-5 c = search needs
+
+returns-5 : tie.Need-returns-5
+returns-5 c = search needs
+
+store-long-requires : tie.Need-store-long-requires
+store-long-requires c κs = search needs
+
+same-length-6 : tie.Need-same-length-6
+same-length-6 c = search needs
+
+returns-6 : tie.Need-returns-6
+returns-6 c = search needs
 
 pub store-number-spec : {M : Type 1} → statement M
 store-number-spec =
     tie.close
     (tie.spec
-    cast-room
-    add-room
-    slice-write-room
-    add-result
+    store-digit-requires
     same-length
     returns
-    store-low-requires
+    store-tens-requires
     same-length-2
     returns-2
-    store-high-requires
-    store-low-requires-2
+    store-hundreds-requires
     same-length-3
-    returns-3)
+    returns-3
+    store-thousands-requires
+    same-length-4
+    returns-4
+    store-ten-thousands-requires
+    same-length-5
+    returns-5
+    store-long-requires
+    same-length-6
+    returns-6)

@@ -1,6 +1,6 @@
 -- `number_at` meets its contract. By the first digit. Assumes nothing.
 use native.Mathlib.Omega.{arith}
-use Rattle.runtext.proofs.Digits.{digit-within, number-none, number-zero, number-more}
+use Rattle.runtext.proofs.Digits.{digit-within, number-none, number-room, number-some}
 use borrow.Author.Needs.{needs}
 use Rattle.runtext.proofs.numbers.number_at.Statement.{statement}
 use Rattle.runtext.proofs.numbers.number_at.Tie as tie
@@ -12,22 +12,19 @@ returns : tie.Need-returns
 returns c = search number-none
 
 add-more-digits : tie.Need-add-more-digits
-add-more-digits c = omega (arith, digit-within _ _ (c .before .before .digit-at .ensures) (c .before .if1 .left))
+add-more-digits c = omega (arith, digit-within _ _ (c .before .digit-at .ensures) (c .if1 .left))
+
+room-behind-requires : tie.Need-room-behind-requires
+room-behind-requires c κs = search needs
 
 more-digits-requires : tie.Need-more-digits-requires
-more-digits-requires c κs = (digit-within _ _ (c .before .before .digit-at .ensures) (c .before .if1 .left), omega arith)
+more-digits-requires c κs =
+    let e = c .before .before .digit-at .ensures in
+    (digit-within _ _ e (c .before .if1 .left), number-room _ _ e (c .before .if1 .left) (c .room-behind .ensures))
 
 returns-2 : tie.Need-returns-2
-returns-2 c = search number-zero
-
-add-more-digits-2 : tie.Need-add-more-digits-2
-add-more-digits-2 c = omega (arith, digit-within _ _ (c .before .before .digit-at .ensures) (c .before .if1 .left))
-
-more-digits-requires-2 : tie.Need-more-digits-requires-2
-more-digits-requires-2 c κs = search digit-within
-
-returns-3 : tie.Need-returns-3
-returns-3 c = search number-more
+returns-2 c =
+    number-some _ _ (c .before .before .before .digit-at .ensures) (c .before .before .if1 .left) (c .before .room-behind .ensures) (c .more-digits .ensures)
 
 pub number-at-spec : {M : Type 1} → statement M
 number-at-spec =
@@ -36,8 +33,6 @@ number-at-spec =
     digit-at-requires
     returns
     add-more-digits
+    room-behind-requires
     more-digits-requires
-    returns-2
-    add-more-digits-2
-    more-digits-requires-2
-    returns-3)
+    returns-2)

@@ -1,0 +1,104 @@
+-- How long a report can be: never 0 bytes, and at most 1,377,401. No line of a script gives more than 21 bytes of report for each of its own bytes
+-- and its end: an empty line has none but its end, and a step's line is long enough to pay for its answer and for a tag to come. Assumes nothing.
+use Prim.Native.Nat.{ℕ, suc, _+_, _*_, _≤_, _<_}
+use native.Mathlib.Omega.{arith}
+use mathlib.Core.Bool.{false, _&&_}
+use mathlib.Core.List.{List, [], _∷_, map}
+use mathlib.Core.Logic.{⊎-elim}
+use mathlib.Core.Path.{_≡_, refl}
+use lib.Dec.{eqb}
+use lib.ListN.{length, length-append}
+use Rattle.published.proofs.Tests.{split, clash}
+use Rattle.runtext.specs.Spelling.{ascii}
+use Rattle.runtext.specs.Text.{linesOf}
+use Rattle.runtext.specs.Reading.{isPrefix}
+use Rattle.runtext.proofs.Keys.{key-fits}
+use Rattle.runtext.proofs.Places.{le-or-lt}
+use Rattle.runtext.proofs.LineBytes.{bytesIn, lines-few, lines-bytes}
+use Rattle.ledger.specs.Book.{Book, newBook, answer, step}
+use Rattle.ledger.proofs.Kept.{Kept, kept-new, kept-step}
+use Rattle.script.specs.declared.Step.{Step}
+use Rattle.script.specs.declared.Line.{Line}
+use Rattle.script.specs.declared.Line.the-variants.{Does, Malformed}
+use Rattle.script.specs.Script.{stepAt, lineOf, stepIs, isHandOut}
+use Rattle.ledger_report.specs.Report.{readScript, answerTo, bookAfter, handsOut, answerLine, answerLines, refusedIn, lastLines, reportFor, reportOf}
+use Rattle.ledger_report.proofs.AnswerLine.{answer-short, malformed-short}
+use Rattle.ledger_report.proofs.LastLines.{last-short, last-some}
+use Rattle.ledger_report.proofs.Steps.{step-pays}
+
+-- ---- a step's line has at least 8 bytes
+
+not-prefix : (key l : List ℕ) → length l < length key → isPrefix key l ≡ false
+not-prefix key l h = split (isPrefix key l) (λ e. absurd (omega (arith, key-fits key l 0 e))) (λ e. e)
+
+short-malformed : (l : List ℕ) → length l < 8 → lineOf l ≡ Malformed
+unfolding lineOf stepAt
+short-malformed l h =
+    rw (
+      not-prefix (ascii "step=join") l (omega arith),
+      not-prefix (ascii "step=sweep") l (omega arith),
+      not-prefix (ascii "step=close") l (omega arith),
+      not-prefix (ascii "step=end") l (omega arith),
+      not-prefix (ascii "step=handout") l (omega arith),
+    )
+    refl
+
+does-long : (l : List ℕ) (s : Step) → lineOf l ≡ Does s → 8 ≤ length l
+does-long l s e = ⊎-elim (λ (h : 8 ≤ length l). h) (λ (h : length l < 8). clash (let m = short-malformed l h in cc)) (le-or-lt 8 (length l))
+
+-- ---- the lines of the answers
+
+pub kept-line : (b : Book) → Kept 16 b → (x : Line) → Kept 16 (answerTo b x .book)
+unfolding answerTo answer
+kept-line b h (Does s) = kept-step 16 b h (stepIs s)
+kept-line b h Malformed = h
+
+-- the line of the answer to x
+abbrev pub lineFor : ℕ → Book → Line → List ℕ
+lineFor k b x = answerLine k (answerTo b x .number) (eqb (answerTo b x .number) 0 && handsOut x) (answerTo b x .tags)
+
+-- a line pays for its answer, and for each sweep that is then held a tag
+line-pays : (k : ℕ) (b : Book) (l : List ℕ) (x : Line) → Kept 16 b → k < 100000 → lineOf l ≡ x
+    → length (lineFor k b x) + 11 * length (answerTo b x .book .held) ≤ 21 * suc (length l) + 11 * length (b .held)
+unfolding answerTo answer handsOut
+line-pays k b l (Does s) h g e =
+    let a = step 16 b (stepIs s) in
+    omega (arith, answer-short k (a .number) (eqb (a .number) 0 && isHandOut s) (a .tags), step-pays b h (stepIs s), does-long l s e)
+line-pays k b l Malformed h g e = omega (arith, malformed-short k g)
+
+lines-pay : (k : ℕ) (b : Book) (ls : List (List ℕ)) → Kept 16 b → k + length ls < 100000
+    → length (answerLines (suc k) b (map lineOf ls)) ≤ 21 * bytesIn ls + 11 * length (b .held)
+unfolding answerLines bytesIn
+lines-pay k b [] h g = omega arith
+lines-pay k b (l ∷ ls) h g =
+    let after = answerTo b (lineOf l) .book in
+    omega (
+      arith,
+      length-append (lineFor (suc k) b (lineOf l)) (answerLines (suc (suc k)) after (map lineOf ls)),
+      line-pays (suc k) b l (lineOf l) h (omega arith) refl,
+      lines-pay (suc k) after ls (kept-line b h (lineOf l)) (omega arith),
+    )
+
+-- ---- the report
+
+module _ (text : List ℕ) where
+  abbrev final : Book
+  final = bookAfter (newBook 0) (readScript text)
+
+  abbrev refused : ℕ
+  refused = refusedIn (newBook 0) (readScript text)
+
+  parts-length : length (reportOf text) ≡ length (answerLines 1 (newBook 0) (readScript text)) + length (lastLines final (length (readScript text)) refused)
+  unfolding reportOf reportFor
+  parts-length = simp length-append
+
+  pub report-some : 1 ≤ length (reportOf text)
+  report-some = omega (arith, parts-length, last-some final (length (readScript text)) refused)
+
+  answers-short : length text ≤ 65536 → length (answerLines 1 (newBook 0) (readScript text)) ≤ 21 * 65537
+  unfolding readScript newBook
+  answers-short h =
+      omega (arith, lines-pay 0 (newBook 0) (linesOf text) (kept-new 16 0) (omega (arith, lines-few text)), lines-bytes text)
+
+  pub report-short : length text ≤ 65536 → length (reportOf text) ≤ 1377401
+  report-short h = omega (arith, parts-length, answers-short h, last-short final (length (readScript text)) refused)

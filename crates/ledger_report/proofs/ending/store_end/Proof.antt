@@ -1,0 +1,33 @@
+use Rattle.ledger_report.proofs.LastLines.{senders-room, cursor-room, totals-room, end-stored}
+use borrow.Author.Needs.{needs}
+use Rattle.ledger_report.proofs.ending.store_end.Statement.{statement}
+use Rattle.ledger_report.proofs.ending.store_end.Tie as tie
+
+store-senders-requires : tie.Need-store-senders-requires
+store-senders-requires c κs = search senders-room
+
+cast-held : tie.Need-cast-held
+cast-held c = search needs
+
+store-cursor-requires : tie.Need-store-cursor-requires
+store-cursor-requires c κs = search cursor-room
+
+store-totals-requires : tie.Need-store-totals-requires
+store-totals-requires c κs = search totals-room
+
+same-length : tie.Need-same-length
+same-length c = search needs
+
+returns : tie.Need-returns
+returns c = search end-stored
+
+pub store-end-spec : {M : Type 1} → statement M
+store-end-spec =
+    tie.close
+    (tie.spec
+    store-senders-requires
+    cast-held
+    store-cursor-requires
+    store-totals-requires
+    same-length
+    returns)

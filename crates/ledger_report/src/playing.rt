@@ -1,0 +1,62 @@
+// A script played on a new ledger, line by line.
+ghost use mathlib.Core.Path.{_≡_};
+ghost use mathlib.Core.Bool.{cond};
+ghost use Prim.Native.Nat.{_≤_};
+ghost use lib.Dec.{eqb};
+ghost use lib.ListN.{length};
+ghost use Rattle.runtext.specs.Stored.{Stored};
+ghost use Rattle.ledger_report.specs.Report.{reportOf};
+use crate::answers::store_answer;
+use crate::ending::store_end;
+use kinds::SlotNo;
+use runtext::bytes::line_end;
+use script::Line;
+use script::playing::play;
+use script::reading::read_line;
+
+// Plays the script and stores its report at the room's front. Answers the place behind it.
+pub(crate) fn play_text(text: &[u8], room: &mut [u8]) -> usize
+    requires { ⌜ (length (now text) ≤ 65536) × (length (reportOf (now text)) ≤ length (now room)) ⌝ }
+    ensures { λ r. ⌜ Stored (now (room .entry)) 0 (reportOf (now (text .entry))) r (now (room .exit)) ⌝ }
+{
+    let mut words = [0u64; 1024];
+    let mut tags = [0u32; 1024];
+    let mut ledger = ledger::new(SlotNo(0));
+    let mut at = 0;
+    let mut next = 0;
+    let mut lines = 0;
+    let mut refused = 0;
+    while at < text.len() {
+        let stop = line_end(text, at);
+        let line = read_line(&text[at..stop]);
+        at = stop + 1;
+        lines += 1;
+        let Line::Does(step) = line else {
+            next = store_answer(room, next, lines, 20, false, &tags[..0]);
+            refused += 1;
+            continue;
+        };
+        let played = play(ledger, &mut words, &mut tags, step);
+        ledger = played.ledger;
+        let count = played.count;
+        next = store_answer(
+            room,
+            next,
+            lines,
+            played.number,
+            played.handed,
+            &tags[..count],
+        );
+        refused += refusal(played.number);
+    }
+    store_end(room, next, ledger, lines, refused)
+}
+
+fn refusal(number: u32) -> u32
+    ensures { λ r. ⌜ r ≡ cond (eqb number 0) 0 1 ⌝ }
+{
+    if number == 0 {
+        return 0;
+    }
+    1
+}
