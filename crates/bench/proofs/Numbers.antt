@@ -5,8 +5,8 @@ use Prim.Native.Nat.{ℕ, _-_, _<_, _≤_}
 use native.Mathlib.Omega.{arith}
 use lib.Dec.{leb}
 use borrow.Author.Tests.{le-leb, lt-leb}
-use Rattle.published.specs.Rounds.{isBench}
-use Rattle.published.proofs.Moves.{bench-in}
+use Rattle.common.specs.Benches.{isBench}
+use Rattle.common.proofs.Benches.{bench-in}
 use Rattle.kinds.specs.declared.Message.{Message}
 use Rattle.bench.specs.Changes.{takeOf, takeFrom, noticeOf, noticeFrom}
 use Rattle.bench.specs.declared.Bench.{Bench}

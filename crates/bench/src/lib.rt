@@ -5,6 +5,7 @@ mod changes;
 mod sets;
 mod turns;
 
+use kinds::AnswerNo;
 use kinds::Message;
 use kinds::RoundNo;
 use kinds::SlotNo;
@@ -45,7 +46,7 @@ pub struct Gathered {
 pub enum Answer {
     Decided(SlotNo, Message),
     Went(Message),
-    Refused(u8),
+    Refused(AnswerNo),
 }
 
 pub struct Turned {

@@ -2,7 +2,7 @@
 
 ghost use mathlib.Core.Path.{_≡_};
 ghost use Prim.Native.Nat.{_%_, _^_};
-ghost use Rattle.published.specs.Rounds.{isBench};
+ghost use Rattle.common.specs.Benches.{isBench};
 ghost use Rattle.bench.specs.Sets.{has};
 use kinds::BenchNo;
 

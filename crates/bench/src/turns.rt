@@ -9,6 +9,7 @@ use crate::Gathered;
 use crate::Heard;
 use crate::Turned;
 use crate::sets::has;
+use kinds::AnswerNo;
 use kinds::Message;
 use kinds::RoundMessage;
 use kinds::RoundNo;
@@ -111,7 +112,7 @@ impl Bench {
         (world & self.world) != world
     }
 
-    fn refused(self, number: u8) -> Turned
+    fn refused(self, number: AnswerNo) -> Turned
         ensures { λ r. ⌜ r ≡ refuses self number ⌝ }
     {
         Turned {

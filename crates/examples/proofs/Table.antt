@@ -7,13 +7,18 @@ use mathlib.Core.Bool.{Bool, true, false, _&&_}
 use mathlib.Core.List.{List, [], _∷_}
 use lib.Dec.{eqb}
 use Rattle.published.specs.Rounds.{Run, newRun, newBench, State, fresh, running, decided, abstained, left, failed, Decision, none, chosen, Step, start, abstain, leave, fail, turn, arrive, notice, step, upTo}
-use Rattle.published.specs.Rounds.{bit, member, every, worldOf, everyIn, within, put, find, hasOut, viewOf, got, see, agrees, isAwaited, isHeard, decides, decidesOn, settled, settledOn, nextWorld, heardOn, lesser, nextValue, leastOn, inState, inRound, sending, taking, noticing, choosing, entering, parting, deciding, advancing, turned, leaving, isBench, isFresh, isRunning, isFailed, isGone, hasStarted, startedWith, hasAll, inAll, waiting, some, takingFirst, allows, checks, after, refuse, done, judge}
+use Rattle.common.specs.Worlds.{bit, member, worldOf, everyIn, within}
+use Rattle.common.specs.Benches.{every, isBench}
+use Rattle.common.specs.Updates.{put}
+use Rattle.published.specs.Rounds.{find, hasOut, viewOf, got, see, agrees, isAwaited, isHeard, decides, decidesOn, settled, settledOn, nextWorld, heardOn, lesser, nextValue, leastOn, inState, inRound, sending, taking, noticing, choosing, entering, parting, deciding, advancing, turned, leaving, isFresh, isRunning, isFailed, isGone, hasStarted, startedWith, hasAll, inAll, waiting, some, takingFirst, allows, checks, after, refuse, done}
+use Rattle.common.specs.Checks.{judge}
 use Rattle.kinds.specs.Stand.{stepOf}
-use Rattle.runtext.specs.Spelling.{ascii}
-use Rattle.runtext.specs.Reading.{isPrefix, digitAt, moreDigits, numberAt, fieldAt, memberAt, membersAt, worldAt, keyOf, rareVerbAt, verbAt, startAt, fromAt, restAt, stepAt, lineOf}
-use Rattle.report.specs.Report.{answerTo}
-use Rattle.ledger.specs.Book as ledger
-use Rattle.ledger.specs.Book.{Book, newBook, only, tagsOf, hasJoined, isOpen, firstSlot, openSlot, isMember, mayGo, withRow, swept, cut, advanced}
+use Rattle.spelling.specs.Numbers.{ascii}
+use Rattle.spelling.specs.Fields.{isPrefix, digitAt, moreDigits, numberAt, fieldAt}
+use Rattle.spelling.specs.Reading.{memberAt, membersAt, worldAt, keyOf, rareVerbAt, verbAt, startAt, fromAt, restAt, stepAt, saidOf}
+use Rattle.run_report.specs.Report.{answerTo}
+use Rattle.book.specs.Book as ledger
+use Rattle.book.specs.Book.{Book, newBook, only, tagsOf, hasJoined, isOpen, firstSlot, openSlot, isMember, mayGo, withRow, swept, cut, advanced}
 
 -- a line of an example: a step, a line of text or a ledger step with its answer; or what a bench then stands at; or the tags of a hand-out
 pub data Line : Type 0 where
@@ -54,7 +59,7 @@ same (x ∷ l) (y ∷ m) = eqb x y && same l m
 pub holds : Run → Book → List Line → Bool
 holds s b [] = true
 holds s b (does a k ∷ l) = eqb (step 16 (upTo 96) s a .number) k && holds (step 16 (upTo 96) s a .run) b l
-holds s b (reads t k ∷ l) = eqb (answerTo s (lineOf 16 (ascii t)) .number) k && holds (answerTo s (lineOf 16 (ascii t)) .run) b l
+holds s b (reads t k ∷ l) = eqb (answerTo s (saidOf 16 (ascii t)) .number) k && holds (answerTo s (saidOf 16 (ascii t)) .run) b l
 holds s b (stands i r v w ∷ l) = (isRound (s i .state) (s i .round) r && eqb (s i .value) v && eqb (s i .world) w) && holds s b l
 holds s b (decides′ i r v ∷ l) = (isDecided (s i .state) && eqb (s i .round) r && isValue (s i .decision) v) && holds s b l
 holds s b (keeps a k ∷ l) = eqb (ledger.step 16 b a .number) k && holds s (ledger.step 16 b a .book) l
@@ -100,5 +105,5 @@ table =
     ∷ []
 
 pub examples : allHold table ≡ true
-unfolding allHold holds table ok kept isRound isValue isDecided same newRun newBench step bit member every worldOf everyIn within put find hasOut viewOf got see agrees isAwaited isHeard decides decidesOn settled settledOn nextWorld heardOn lesser nextValue leastOn inState inRound sending taking noticing choosing entering parting deciding advancing turned leaving isBench isFresh isRunning isFailed isGone hasStarted startedWith hasAll inAll waiting some takingFirst allows checks after refuse done judge stepOf isPrefix digitAt moreDigits numberAt fieldAt memberAt membersAt worldAt keyOf rareVerbAt verbAt startAt fromAt restAt stepAt lineOf answerTo newBook only tagsOf hasJoined isOpen firstSlot openSlot isMember mayGo withRow swept cut advanced ledger.checks ledger.answer ledger.after ledger.judge ledger.step
+unfolding allHold holds table ok kept isRound isValue isDecided same newRun newBench step bit member every worldOf everyIn within put find hasOut viewOf got see agrees isAwaited isHeard decides decidesOn settled settledOn nextWorld heardOn lesser nextValue leastOn inState inRound sending taking noticing choosing entering parting deciding advancing turned leaving isBench isFresh isRunning isFailed isGone hasStarted startedWith hasAll inAll waiting some takingFirst allows checks after refuse done stepOf isPrefix digitAt moreDigits numberAt fieldAt memberAt membersAt worldAt keyOf rareVerbAt verbAt startAt fromAt restAt stepAt saidOf answerTo newBook only tagsOf hasJoined isOpen firstSlot openSlot isMember mayGo withRow swept cut advanced ledger.checks ledger.answer ledger.after judge ledger.step
 examples = refl

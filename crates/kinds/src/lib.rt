@@ -11,6 +11,9 @@ pub struct SlotNo(pub u32);
 // A round; the first is 1.
 pub struct RoundNo(pub u32);
 
+// An answer's number, as document 01 lists them: 0, done, or a refusal's.
+pub type AnswerNo = u8;
+
 // What a bench says in a round. Bench i is bit i - 1 of a world.
 pub struct RoundMessage {
     pub round: RoundNo,

@@ -11,21 +11,24 @@ use lib.ListN.{length, take, drop, set, length-map, length-take, length-set}
 use lib.Seq.{take-suc-set, drop-set-lt, length-take-le, take-all}
 use lib.Dec.{eqb, leb, ltb}
 use borrow.Author.Tests.{not-true, not-false, le-leb, lt-leb, lt-ltb, le-ltb, leb-true, leb-false, eqb-false, ne-eqb}
-use Rattle.published.specs.Rounds.{needs, isBench, put}
-use Rattle.published.proofs.Tests.{split}
-use Rattle.published.proofs.Checks.{Holds, nothing, also, Fails, here, later}
+use Rattle.common.specs.Checks.{needs}
+use Rattle.common.specs.Benches.{isBench}
+use Rattle.common.specs.Updates.{put}
+use Rattle.common.proofs.Tests.{split}
+use Rattle.common.proofs.Checks.{Holds, nothing, also, Fails, here, later}
 use Rattle.kinds.specs.declared.SlotNo.{SlotNo}
 use Rattle.ledger.specs.declared.Seat.{Seat}
 use Rattle.ledger.specs.declared.Ledger.{Ledger}
 use Rattle.ledger.specs.declared.Told.{Told}
-use Rattle.ledger.specs.Book as book
-use Rattle.ledger.specs.Book.{Sweep, Row, hasJoined, isOpen, firstSlot, openSlot, Book, withRow, swept, cut, Step, join, sweep, close, end, Answer, answer, checks, after, step}
+use Rattle.book.specs.Book as book
+use Rattle.book.specs.Book.{Sweep, Row, hasJoined, isOpen, firstSlot, openSlot, Book, withRow, swept, cut, Step, join, sweep, close, end, Answer, answer, checks, after, step}
 use Rattle.ledger.specs.Seen.{rowIs, rowsOf, sweepIs, heldIn, bookOf}
 use Rattle.ledger.specs.Words.{Knows, TakesOut}
 use Rattle.ledger.specs.Promises.{Tells, movesHeld}
 use Rattle.ledger.proofs.Seating.{rows-set}
-use Rattle.ledger.proofs.Judging.{step-fails, step-holds}
-use Rattle.ledger.proofs.Outcomes.{first-check, positive, after-done, step-ind}
+use Rattle.book.proofs.Outcomes.{step-fails, step-holds}
+use Rattle.common.proofs.Checks.{first-check}
+use Rattle.book.proofs.Outcomes.{positive, after-done, step-ind}
 
 abbrev pub told : ℕ → Ledger → Told
 told k l = record { number = k; ledger = l }

@@ -9,7 +9,7 @@ use lib.ListN.{length, take, drop, getD, set, length-append, length-map, length-
 use lib.Seq.{take-suc, length-take-le}
 use lib.Dec.{eqb, leb}
 use borrow.Author.Tests.{eq-eqb, ne-eqb}
-use Rattle.ledger.specs.Book.{Sweep, only}
+use Rattle.book.specs.Book.{Sweep, only}
 use Rattle.ledger.specs.Seen.{sweepIs, heldIn}
 use Rattle.ledger.specs.Promises.{laid}
 use Rattle.ledger.specs.declared.words.Part.{Part}
@@ -17,7 +17,7 @@ use Rattle.ledger.specs.declared.words.Part.the-variants.{Of, From}
 use Rattle.kinds.specs.declared.BenchNo.{BenchNo}
 use Rattle.kinds.specs.declared.SlotNo.{SlotNo}
 use Rattle.ledger.specs.Words.{within, TakesOut}
-use Rattle.ledger.proofs.Only.{snoc-yes, snoc-no, only-map, only-rest}
+use Rattle.book.proofs.Only.{snoc-yes, snoc-no, only-map, only-rest}
 use Rattle.ledger.proofs.Laid.{laid-more, laid-past, laid-front, laid-rest}
 
 -- ---- whether a word is in a part

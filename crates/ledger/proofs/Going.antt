@@ -8,13 +8,13 @@ use native.Mathlib.Omega.{arith}
 use lib.ListN.{getD}
 use lib.Dec.{ltb}
 use borrow.Author.Tests.{not-true, not-false}
-use Rattle.published.specs.Rounds.{every}
-use Rattle.published.proofs.Tests.{split}
-use Rattle.published.proofs.Worlds.{every-next, every-get}
+use Rattle.common.specs.Benches.{every}
+use Rattle.common.proofs.Tests.{split}
+use Rattle.common.proofs.Benches.{every-next, every-get}
 use Rattle.ledger.specs.declared.Row.{Row}
 use Rattle.ledger.specs.declared.Seat.{Seat}
-use Rattle.ledger.specs.Book as book
-use Rattle.ledger.specs.Book.{isMember, openSlot, mayGo}
+use Rattle.book.specs.Book as book
+use Rattle.book.specs.Book.{isMember, openSlot, mayGo}
 use Rattle.ledger.specs.Seen.{rowIs, rowsOf}
 use Rattle.ledger.proofs.Seating.{nobody}
 

@@ -9,18 +9,18 @@ use native.Mathlib.Omega.{arith}
 use lib.ListN.{length, replicate, length-replicate, getD-replicate}
 use lib.Dec.{eqb, eqb·suc-zero}
 use borrow.Author.Tests.{not-true, not-false, le-leb, lt-leb}
-use Rattle.published.proofs.Checks.{Holds, nothing, also, Fails, here, later}
+use Rattle.common.proofs.Checks.{Holds, nothing, also, Fails, here, later}
 use Rattle.ledger.specs.declared.Cursor.{Cursor}
 use Rattle.ledger.specs.declared.Ledger.{Ledger}
 use Rattle.ledger.specs.declared.HandOut.the-variants.{Written, Refused}
 use Rattle.ledger.specs.declared.order.Starts.{Starts}
-use Rattle.ledger.specs.Book.{handOut, answer, checks, after, advanced, mayGo, tagsOf}
+use Rattle.book.specs.Book.{handOut, answer, checks, after, advanced, mayGo, tagsOf}
 use Rattle.ledger.specs.Seen.{rowsOf, heldIn, bookOf}
 use Rattle.ledger.specs.Advancing.{advancedOf}
 use Rattle.ledger.specs.Words.{NoneOf, TakesOut}
 use Rattle.ledger.specs.Order.{Starting}
 use Rattle.ledger.specs.Promises.{Hands, movesHeld, numberOf, handOutOf, laid}
-use Rattle.ledger.proofs.Judging.{step-fails, step-holds}
+use Rattle.book.proofs.Outcomes.{step-fails, step-holds}
 use Rattle.ledger.proofs.Answered.{told, refused, done, held-min}
 use Rattle.ledger.proofs.Compacting.{compacting-none, compacting-out}
 use Rattle.ledger.proofs.Seats.{none-tags}

@@ -6,14 +6,14 @@ use mathlib.Core.List.{List}
 use native.Mathlib.Omega.{arith}
 use lib.ListN.{length}
 use lib.Dec.{eqb}
-use Rattle.published.proofs.Tests.{clash, split}
+use Rattle.common.proofs.Tests.{clash, split}
 use Rattle.ledger.specs.declared.Ledger.{Ledger}
 use Rattle.ledger.specs.declared.Told.{Told}
-use Rattle.ledger.specs.Book.{Book, newBook, withRow, Step, join, sweep, close, end, handOut, answer, step}
+use Rattle.book.specs.Book.{Book, newBook, withRow, Step, join, sweep, close, end, handOut, answer, step}
 use Rattle.ledger.specs.Seen.{bookOf}
 use Rattle.ledger.specs.Promises.{movesHeld, Tells, Begins}
-use Rattle.ledger.proofs.Outcomes.{join-ind, sweep-ind, close-ind, end-ind, handOut-ind}
-use Rattle.ledger.proofs.Kept.{Kept, kept-new, kept-step, kept-few}
+use Rattle.book.proofs.Outcomes.{join-ind, sweep-ind, close-ind, end-ind, handOut-ind}
+use Rattle.book.proofs.Kept.{Kept, kept-new, kept-step, kept-few}
 
 pub record Made (l : Ledger) (words : List ℕ) : Type 0 where
   pub kept : Kept 16 (bookOf l words)

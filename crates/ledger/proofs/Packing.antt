@@ -4,8 +4,8 @@ use Prim.Native.Nat.{ℕ, _+_, _*_, _/_, _%_, _≤_, _<_}
 use mathlib.Core.List.{List, [], _∷_, _++_, map}
 use native.Mathlib.Omega.{arith}
 use lib.ListN.{take, drop, take-append-drop}
-use Rattle.published.proofs.Tests.{clash}
-use Rattle.ledger.specs.Book.{Sweep}
+use Rattle.common.proofs.Tests.{clash}
+use Rattle.book.specs.Book.{Sweep}
 use Rattle.ledger.specs.Seen.{sweepIs, heldIn}
 
 pub packed : (s o t : ℕ) → o ≤ 65534 → t < 4294967296

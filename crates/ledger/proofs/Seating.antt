@@ -8,12 +8,13 @@ use lib.ListN.{length, set, List·getD-eq-default, length-replicate, replicate, 
 use lib.Seq.{getD-set-same, getD-set-other}
 use lib.Dec.{leb}
 use borrow.Author.Tests.{leb-true, leb-false, le-leb}
-use Rattle.published.specs.Rounds.{isBench, put}
-use Rattle.published.proofs.Tests.{both, split}
-use Rattle.published.proofs.Updates.{put-ind}
+use Rattle.common.specs.Benches.{isBench}
+use Rattle.common.specs.Updates.{put}
+use Rattle.common.proofs.Tests.{both, split}
+use Rattle.common.proofs.Updates.{put-ind}
 use Rattle.ledger.specs.declared.Row.the-variants.{Unknown}
 use Rattle.ledger.specs.declared.Seat.{Seat}
-use Rattle.ledger.specs.Book as book
+use Rattle.book.specs.Book as book
 use Rattle.ledger.specs.Seen.{rowIs, rowsOf}
 
 pub bench-range : (s : ℕ) → isBench 16 s ≡ true → (1 ≤ s) × (s ≤ 16)

@@ -8,7 +8,7 @@ use native.Mathlib.Omega.{arith}
 use lib.ListN.{length, drop, getD}
 use lib.Seq.{ext-getD}
 use lib.Dec.{eqb}
-use Rattle.published.proofs.Tests.{clash}
+use Rattle.common.proofs.Tests.{clash}
 use Rattle.kinds.specs.declared.SlotNo.{SlotNo}
 use Rattle.ledger.specs.declared.Row.{Row}
 use Rattle.ledger.specs.declared.Row.the-variants.{Unknown, Joined, Ended}
@@ -16,8 +16,8 @@ use Rattle.ledger.specs.declared.Seat.{Seat}
 use Rattle.ledger.specs.declared.Ledger.{Ledger}
 use Rattle.ledger.specs.declared.Told.{Told}
 use Rattle.ledger.specs.declared.Handed.{Handed}
-use Rattle.ledger.specs.Book as book
-use Rattle.ledger.specs.Book.{Book, Step, handOut, step}
+use Rattle.book.specs.Book as book
+use Rattle.book.specs.Book.{Book, Step, handOut, step}
 use Rattle.ledger.specs.Seen.{rowIs, rowsOf, heldIn, bookOf}
 use Rattle.ledger.specs.Promises.{movesHeld, Tells, Hands, Begins}
 use Rattle.ledger.proofs.Packing.{same-words}

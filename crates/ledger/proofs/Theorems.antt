@@ -10,21 +10,21 @@ use Rattle.published.specs.Rounds.{find, found, chosen, runFrom, newRun}
 use Rattle.ledger.specs.declared.Ledger.{Ledger}
 use Rattle.ledger.specs.declared.Told.{Told}
 use Rattle.ledger.specs.declared.Handed.{Handed}
-use Rattle.ledger.specs.Book.{Sweep, tagsOf, joined, Book, newBook, Step, end, handOut, answer, step}
-use Rattle.ledger.specs.Traffic.{bookFrom, accepted, dropped, handedOut, inOrder, along, tally}
+use Rattle.book.specs.Book.{Sweep, tagsOf, joined, Book, newBook, Step, end, handOut, answer, step}
+use Rattle.book.specs.Traffic.{bookFrom, accepted, dropped, handedOut, inOrder, along, tally}
 use Rattle.ledger.specs.Seen.{bookOf}
 use Rattle.ledger.specs.Promises.{Tells, Hands, Begins}
-use Rattle.ledger.proofs.Only.{All}
-use Rattle.ledger.proofs.Tags as tags
-use Rattle.ledger.proofs.Tags.{sentFrom}
-use Rattle.ledger.proofs.Outcomes.{step-ind, after-done}
-use Rattle.published.proofs.Checks.{OneOf}
-use Rattle.ledger.proofs.Numbers as numbers
-use Rattle.ledger.proofs.Numbers.{refusals}
-use Rattle.ledger.proofs.Kept as kept
-use Rattle.ledger.proofs.Kept.{Kept, Holding, kept-new, kept-from}
-use Rattle.ledger.proofs.Accounts as accounts
-use Rattle.ledger.proofs.Joint as joins
+use Rattle.book.proofs.Only.{All}
+use Rattle.book.proofs.Tags as tags
+use Rattle.book.proofs.Tags.{sentFrom}
+use Rattle.book.proofs.Outcomes.{step-ind, after-done}
+use Rattle.common.proofs.Checks.{OneOf}
+use Rattle.book.proofs.Numbers as numbers
+use Rattle.book.proofs.Numbers.{refusals}
+use Rattle.book.proofs.Kept as kept
+use Rattle.book.proofs.Kept.{Kept, Holding, kept-new, kept-from}
+use Rattle.book.proofs.Accounts as accounts
+use Rattle.book.proofs.Joint as joins
 use Rattle.ledger.proofs.Made as made
 use Rattle.ledger.proofs.Made.{Made}
 use Rattle.ledger.proofs.Settles as settles

@@ -11,7 +11,7 @@ use Rattle.ledger.specs.declared.Told.{Told}
 use Rattle.ledger.specs.declared.HandOut.{HandOut}
 use Rattle.ledger.specs.declared.HandOut.the-variants.{Written, Refused}
 use Rattle.ledger.specs.declared.Handed.{Handed}
-use Rattle.ledger.specs.Book.{Step, join, sweep, close, end, handOut, step, newBook}
+use Rattle.book.specs.Book.{Step, join, sweep, close, end, handOut, step, newBook}
 use Rattle.ledger.specs.Seen.{bookOf}
 
 -- does the step change what is held

@@ -7,7 +7,7 @@ use Rattle.ledger.specs.declared.Row.{Row}
 use Rattle.ledger.specs.declared.Row.the-variants.{Unknown, Joined, Ended}
 use Rattle.ledger.specs.declared.Seat.{Seat}
 use Rattle.ledger.specs.declared.Ledger.{Ledger}
-use Rattle.ledger.specs.Book as book
+use Rattle.book.specs.Book as book
 
 unfoldable pub rowIs : Row → book.Row
 rowIs Unknown = book.unknown

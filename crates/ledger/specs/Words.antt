@@ -7,8 +7,8 @@ use lib.ListN.{length, drop}
 use lib.Dec.{eqb, leb}
 use Rattle.ledger.specs.declared.words.Part.{Part}
 use Rattle.ledger.specs.declared.words.Part.the-variants.{Of, From}
-use Rattle.published.specs.Rounds.{isBench}
-use Rattle.ledger.specs.Book.{Sweep, only, Row, Book}
+use Rattle.common.specs.Benches.{isBench}
+use Rattle.book.specs.Book.{Sweep, only, Row, Book}
 use Rattle.ledger.specs.Seen.{heldIn}
 
 -- the sweeps of a part

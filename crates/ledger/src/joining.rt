@@ -3,7 +3,7 @@
 ghost use mathlib.Core.Path.{_≡_};
 ghost use mathlib.Core.List.{List};
 ghost use Prim.Native.Nat.{ℕ, _≤_};
-ghost use Rattle.ledger.specs.Book.{Book, join, close, step, openSlot};
+ghost use Rattle.book.specs.Book.{Book, join, close, step, openSlot};
 ghost use Rattle.ledger.specs.Seen.{rowIs, rowsOf};
 ghost use Rattle.ledger.specs.Promises.{Tells, Begins};
 ghost use Rattle.ledger.specs.Words.{Knows};
@@ -13,6 +13,7 @@ use crate::Row;
 use crate::Seat;
 use crate::Told;
 use crate::rows;
+use kinds::AnswerNo;
 use kinds::BenchNo;
 use kinds::SlotNo;
 
@@ -65,7 +66,7 @@ pub fn join(ledger: Ledger, sender: BenchNo, first: SlotNo) -> Told
 }
 
 // The answer to a join by what is known of the sender.
-fn join_number(sender: BenchNo, row: Row, next: SlotNo, first: SlotNo) -> u32
+fn join_number(sender: BenchNo, row: Row, next: SlotNo, first: SlotNo) -> AnswerNo
     ensures { λ r. ⌜ ((b : Book) → b .next ≡ next .0 → Knows b (sender .0) (rowIs row) → r ≡ step 16 b (join (sender .0) (first .0)) .number) ⌝ }
 {
     if !rows::is_sender(sender) {
@@ -103,7 +104,7 @@ pub fn close(ledger: Ledger, sender: BenchNo) -> Told
 }
 
 // The answer to a close by what is known of the sender.
-fn close_number(sender: BenchNo, row: Row) -> u32
+fn close_number(sender: BenchNo, row: Row) -> AnswerNo
     ensures { λ r. ⌜ ((b : Book) → Knows b (sender .0) (rowIs row) → r ≡ step 16 b (close (sender .0)) .number) × (r ≡ 0 → openSlot (rowIs row) ≤ 65534) ⌝ }
 {
     if !rows::is_sender(sender) {

@@ -1,5 +1,6 @@
 // One bench's store of received sweeps, handed out slot by slot. The ledger goes by value; the sweeps held are words of a room that
 // is lent. specs/Book.antt says what each step does, specs/Seen.antt which book a ledger and its room are, specs/Promises.antt what is promised.
+use kinds::AnswerNo;
 use kinds::SlotNo;
 
 mod joining; // joining.rt: a new ledger, join and close
@@ -51,14 +52,14 @@ pub struct Ledger {
 
 // An answer's number, and the ledger after it.
 pub struct Told {
-    pub number: u32,
+    pub number: AnswerNo,
     pub ledger: Ledger,
 }
 
 // How many tags were written, or the number of the refusal alone.
 pub enum HandOut {
     Written(usize),
-    Refused(u32),
+    Refused(AnswerNo),
 }
 
 // A hand-out's answer, and the ledger after it.

@@ -3,7 +3,7 @@ ghost use mathlib.Core.Path.{_≡_};
 ghost use Prim.Native.Nat.{ℕ, _≤_, _<_};
 ghost use lib.ListN.{length};
 ghost use lib.Dec.{ltb};
-ghost use Rattle.ledger.specs.Book.{Book, sweep, end, step, openSlot};
+ghost use Rattle.book.specs.Book.{Book, sweep, end, step, openSlot};
 ghost use Rattle.ledger.specs.Seen.{rowIs};
 ghost use Rattle.ledger.specs.Promises.{Tells};
 ghost use Rattle.ledger.specs.Words.{Knows};
@@ -13,6 +13,7 @@ use crate::Seat;
 use crate::Told;
 use crate::rows;
 use crate::words;
+use kinds::AnswerNo;
 use kinds::BenchNo;
 use kinds::SlotNo;
 
@@ -45,7 +46,7 @@ fn sweep_in(ledger: Ledger, room: &mut [u64], sender: BenchNo, tag: u32) -> Told
 }
 
 // The answer to a sweep by what is known of the sender and how many are held.
-fn sweep_number(sender: BenchNo, row: Row, held: usize) -> u32
+fn sweep_number(sender: BenchNo, row: Row, held: usize) -> AnswerNo
     ensures { λ r. ⌜ ((b : Book) (tag : ℕ) → Knows b (sender .0) (rowIs row) → ltb (length (b .held)) 1024 ≡ ltb held 1024 → r ≡ step 16 b (sweep (sender .0) tag) .number) × (r ≡ 0 → (sender .0 ≤ 16) × (openSlot (rowIs row) ≤ 65534) × (held < 1024)) ⌝ }
 {
     if !rows::is_sender(sender) {
@@ -95,7 +96,7 @@ fn end_in(ledger: Ledger, room: &mut [u64], sender: BenchNo, slot: SlotNo) -> To
 }
 
 // The answer to an end by what is known of the sender.
-fn end_number(sender: BenchNo, row: Row, next: SlotNo, slot: SlotNo) -> u32
+fn end_number(sender: BenchNo, row: Row, next: SlotNo, slot: SlotNo) -> AnswerNo
     ensures { λ r. ⌜ ((b : Book) → b .next ≡ next .0 → Knows b (sender .0) (rowIs row) → r ≡ step 16 b (end (sender .0) (slot .0)) .number) ⌝ }
 {
     if !rows::is_sender(sender) {

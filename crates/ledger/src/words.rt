@@ -4,7 +4,7 @@ ghost use mathlib.Core.List.{[]};
 ghost use Prim.Native.Nat.{_≤_, min};
 ghost use lib.ListN.{length};
 ghost use lib.Dec.{eqb};
-ghost use Rattle.ledger.specs.Book.{only};
+ghost use Rattle.book.specs.Book.{only};
 ghost use Rattle.ledger.specs.Seen.{sweepIs, heldIn};
 ghost use Rattle.ledger.specs.Words.{within, NoneOf, TakesOut};
 use kinds::BenchNo;

@@ -2,13 +2,16 @@
 use Prim.Native.Nat.{ℕ}
 use mathlib.Core.List.{List, [], _∷_}
 use mathlib.Core.Path.{_≡_, refl}
-use Rattle.published.specs.Rounds.{isBench, every, put}
-use Rattle.runtext.specs.Spelling.{digits, leads}
-use Rattle.runtext.specs.Text.{linesOf}
-use Rattle.runtext.specs.Reading.{isPrefix, digitAt, moreDigits, numberAt, fieldAt}
-use Rattle.runtext.proofs.Examples.{textOf}
-use Rattle.ledger.specs.Book.{only, tagsOf, hasJoined, isOpen, firstSlot, openSlot, isMember, mayGo, newBook, withRow, swept, cut, advanced, checks, answer, after, judge, step}
-use Rattle.script.specs.Script.{moreTag, tagAt, tagFieldAt, joinAt, sweepAt, closeAt, endAt, handAt, stepAt, lineOf, stepIs, isHandOut}
+use Rattle.common.specs.Benches.{isBench, every}
+use Rattle.common.specs.Updates.{put}
+use Rattle.spelling.specs.Numbers.{digits, leads}
+use Rattle.spelling.specs.Lines.{linesOf}
+use Rattle.spelling.specs.Fields.{isPrefix, digitAt, moreDigits, numberAt, fieldAt}
+use Rattle.spelling.proofs.Examples.{textOf}
+use Rattle.book.specs.Book.{only, tagsOf, hasJoined, isOpen, firstSlot, openSlot, isMember, mayGo, newBook, withRow, swept, cut, advanced, checks, answer, after, step}
+use Rattle.common.specs.Checks.{judge}
+use Rattle.spelling.specs.LedgerReading.{moreTag, tagAt, tagFieldAt, joinAt, sweepAt, closeAt, endAt, handAt, stepAt, ledgerSaidOf}
+use Rattle.spelling.specs.LedgerSteps.{stepIs, isHandOut}
 use Rattle.ledger_report.specs.Report.{readScript, answerTo, bookAfter, handsOut, otherTags, tagsText, handedText, answerLine, answerLines, slotsText, senderLine, senderLines, cursorLine, refusedIn, totals, lastLines, reportFor, reportOf}
 
 abbrev pub input : List ℕ
@@ -52,5 +55,5 @@ output = textOf (
     "lines=15 refused=4" ∷ [])
 
 pub example : reportOf input ≡ output
-unfolding readScript answerTo bookAfter handsOut otherTags tagsText handedText answerLine answerLines slotsText senderLine senderLines cursorLine refusedIn totals lastLines reportFor reportOf digits leads linesOf isPrefix digitAt moreDigits numberAt fieldAt moreTag tagAt tagFieldAt joinAt sweepAt closeAt endAt handAt stepAt lineOf stepIs isHandOut only tagsOf hasJoined isOpen firstSlot openSlot isMember mayGo newBook withRow swept cut advanced checks answer after judge step isBench every put
+unfolding readScript answerTo bookAfter handsOut otherTags tagsText handedText answerLine answerLines slotsText senderLine senderLines cursorLine refusedIn totals lastLines reportFor reportOf digits leads linesOf isPrefix digitAt moreDigits numberAt fieldAt moreTag tagAt tagFieldAt joinAt sweepAt closeAt endAt handAt stepAt ledgerSaidOf stepIs isHandOut only tagsOf hasJoined isOpen firstSlot openSlot isMember mayGo newBook withRow swept cut advanced checks answer after judge step isBench every put
 example = refl

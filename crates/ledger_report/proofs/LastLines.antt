@@ -4,13 +4,13 @@ use native.Mathlib.Omega.{arith}
 use mathlib.Core.List.{List, [], _∷_, _++_}
 use mathlib.Core.Path.{_≡_}
 use lib.ListN.{length, length-append}
-use Rattle.runtext.specs.Spelling.{ascii, digits}
-use Rattle.runtext.specs.Stored.{Stored}
-use Rattle.runtext.proofs.Decimals.{digits-length}
-use Rattle.runtext.proofs.Stores.{room-front, room-after, stored-then}
-use Rattle.runtext.proofs.Puts.{Put, put-then, put-last}
+use Rattle.spelling.specs.Numbers.{ascii, digits}
+use Rattle.spelling.specs.Stored.{Stored}
+use Rattle.spelling.proofs.Decimals.{digits-length}
+use Rattle.spelling.proofs.Stores.{room-front, room-after, stored-then}
+use Rattle.spelling.proofs.Puts.{Put, put-then, put-last}
 use Rattle.ledger.specs.declared.Ledger.{Ledger}
-use Rattle.ledger.specs.Book.{Book}
+use Rattle.book.specs.Book.{Book}
 use Rattle.ledger.specs.Seen.{rowsOf}
 use Rattle.ledger_report.specs.Report.{senderLines, cursorLine, totals, lastLines}
 use Rattle.ledger_report.specs.Parts.{ledgerLines}

@@ -8,19 +8,20 @@ use mathlib.Core.Logic.{⊎-elim}
 use mathlib.Core.Path.{_≡_, refl}
 use lib.Dec.{eqb}
 use lib.ListN.{length, length-append}
-use Rattle.published.proofs.Tests.{split, clash}
-use Rattle.runtext.specs.Spelling.{ascii}
-use Rattle.runtext.specs.Text.{linesOf}
-use Rattle.runtext.specs.Reading.{isPrefix}
-use Rattle.runtext.proofs.Keys.{key-fits}
-use Rattle.runtext.proofs.Places.{le-or-lt}
-use Rattle.runtext.proofs.LineBytes.{bytesIn, lines-few, lines-bytes}
-use Rattle.ledger.specs.Book.{Book, newBook, answer, step}
-use Rattle.ledger.proofs.Kept.{Kept, kept-new, kept-step}
-use Rattle.script.specs.declared.Step.{Step}
-use Rattle.script.specs.declared.Line.{Line}
-use Rattle.script.specs.declared.Line.the-variants.{Does, Malformed}
-use Rattle.script.specs.Script.{stepAt, lineOf, stepIs, isHandOut}
+use Rattle.common.proofs.Tests.{split, clash}
+use Rattle.spelling.specs.Numbers.{ascii}
+use Rattle.spelling.specs.Lines.{linesOf}
+use Rattle.spelling.specs.Fields.{isPrefix}
+use Rattle.spelling.proofs.Keys.{key-fits}
+use Rattle.spelling.proofs.Places.{le-or-lt}
+use Rattle.spelling.proofs.LineBytes.{bytesIn, lines-few, lines-bytes}
+use Rattle.book.specs.Book.{Book, newBook, answer, step}
+use Rattle.book.proofs.Kept.{Kept, kept-new, kept-step}
+use Rattle.spelling.specs.declared.LedgerStep.{LedgerStep}
+use Rattle.spelling.specs.declared.LedgerSaid.{LedgerSaid}
+use Rattle.spelling.specs.declared.LedgerSaid.the-variants.{Does, Malformed}
+use Rattle.spelling.specs.LedgerReading.{stepAt, ledgerSaidOf}
+use Rattle.spelling.specs.LedgerSteps.{stepIs, isHandOut}
 use Rattle.ledger_report.specs.Report.{readScript, answerTo, bookAfter, handsOut, answerLine, answerLines, refusedIn, lastLines, reportFor, reportOf}
 use Rattle.ledger_report.proofs.AnswerLine.{answer-short, malformed-short}
 use Rattle.ledger_report.proofs.LastLines.{last-short, last-some}
@@ -31,8 +32,8 @@ use Rattle.ledger_report.proofs.Steps.{step-pays}
 not-prefix : (key l : List ℕ) → length l < length key → isPrefix key l ≡ false
 not-prefix key l h = split (isPrefix key l) (λ e. absurd (omega (arith, key-fits key l 0 e))) (λ e. e)
 
-short-malformed : (l : List ℕ) → length l < 8 → lineOf l ≡ Malformed
-unfolding lineOf stepAt
+short-malformed : (l : List ℕ) → length l < 8 → ledgerSaidOf l ≡ Malformed
+unfolding ledgerSaidOf stepAt
 short-malformed l h =
     rw (
       not-prefix (ascii "step=join") l (omega arith),
@@ -43,22 +44,22 @@ short-malformed l h =
     )
     refl
 
-does-long : (l : List ℕ) (s : Step) → lineOf l ≡ Does s → 8 ≤ length l
+does-long : (l : List ℕ) (s : LedgerStep) → ledgerSaidOf l ≡ Does s → 8 ≤ length l
 does-long l s e = ⊎-elim (λ (h : 8 ≤ length l). h) (λ (h : length l < 8). clash (let m = short-malformed l h in cc)) (le-or-lt 8 (length l))
 
 -- ---- the lines of the answers
 
-pub kept-line : (b : Book) → Kept 16 b → (x : Line) → Kept 16 (answerTo b x .book)
+pub kept-line : (b : Book) → Kept 16 b → (x : LedgerSaid) → Kept 16 (answerTo b x .book)
 unfolding answerTo answer
 kept-line b h (Does s) = kept-step 16 b h (stepIs s)
 kept-line b h Malformed = h
 
 -- the line of the answer to x
-abbrev pub lineFor : ℕ → Book → Line → List ℕ
+abbrev pub lineFor : ℕ → Book → LedgerSaid → List ℕ
 lineFor k b x = answerLine k (answerTo b x .number) (eqb (answerTo b x .number) 0 && handsOut x) (answerTo b x .tags)
 
 -- a line pays for its answer, and for each sweep that is then held a tag
-line-pays : (k : ℕ) (b : Book) (l : List ℕ) (x : Line) → Kept 16 b → k < 100000 → lineOf l ≡ x
+line-pays : (k : ℕ) (b : Book) (l : List ℕ) (x : LedgerSaid) → Kept 16 b → k < 100000 → ledgerSaidOf l ≡ x
     → length (lineFor k b x) + 11 * length (answerTo b x .book .held) ≤ 21 * suc (length l) + 11 * length (b .held)
 unfolding answerTo answer handsOut
 line-pays k b l (Does s) h g e =
@@ -67,16 +68,16 @@ line-pays k b l (Does s) h g e =
 line-pays k b l Malformed h g e = omega (arith, malformed-short k g)
 
 lines-pay : (k : ℕ) (b : Book) (ls : List (List ℕ)) → Kept 16 b → k + length ls < 100000
-    → length (answerLines (suc k) b (map lineOf ls)) ≤ 21 * bytesIn ls + 11 * length (b .held)
+    → length (answerLines (suc k) b (map ledgerSaidOf ls)) ≤ 21 * bytesIn ls + 11 * length (b .held)
 unfolding answerLines bytesIn
 lines-pay k b [] h g = omega arith
 lines-pay k b (l ∷ ls) h g =
-    let after = answerTo b (lineOf l) .book in
+    let after = answerTo b (ledgerSaidOf l) .book in
     omega (
       arith,
-      length-append (lineFor (suc k) b (lineOf l)) (answerLines (suc (suc k)) after (map lineOf ls)),
-      line-pays (suc k) b l (lineOf l) h (omega arith) refl,
-      lines-pay (suc k) after ls (kept-line b h (lineOf l)) (omega arith),
+      length-append (lineFor (suc k) b (ledgerSaidOf l)) (answerLines (suc (suc k)) after (map ledgerSaidOf ls)),
+      line-pays (suc k) b l (ledgerSaidOf l) h (omega arith) refl,
+      lines-pay (suc k) after ls (kept-line b h (ledgerSaidOf l)) (omega arith),
     )
 
 -- ---- the report

@@ -10,24 +10,26 @@ use lib.Dec.{eqb}
 use lib.ListN.{length, take, drop, length-append, length-drop, drop-of-length-le}
 use lib.Seq.{take-at, length-take-le}
 use borrow.Author.Tests.{lt-ltb, le-ltb}
-use Rattle.published.proofs.Tests.{cond-ind}
-use Rattle.runtext.specs.Stored.{Stored}
-use Rattle.runtext.specs.Text.{linesOf}
-use Rattle.runtext.specs.Reading.{lineLength, lineAt, nextFrom, nextAt}
-use Rattle.runtext.proofs.Places.{le-or-lt}
-use Rattle.runtext.proofs.Lines.{length-within}
-use Rattle.runtext.proofs.TextTrip.{lines-at}
-use Rattle.runtext.proofs.Stores.{Left, left-start, left-step, left-end, left-room}
+use Rattle.common.proofs.Tests.{cond-ind}
+use Rattle.spelling.specs.Stored.{Stored}
+use Rattle.spelling.specs.Lines.{linesOf}
+use Rattle.spelling.specs.Fields.{lineLength, lineAt, nextFrom, nextAt}
+use Rattle.spelling.proofs.Places.{le-or-lt}
+use Rattle.spelling.proofs.Lines.{length-within}
+use Rattle.spelling.proofs.TextTrip.{lines-at}
+use Rattle.spelling.proofs.Stores.{Left, left-start, left-step, left-end, left-room}
 use Rattle.ledger.specs.declared.Ledger.{Ledger}
-use Rattle.ledger.specs.Book.{Book, newBook, Answer, answer, step}
+use Rattle.book.specs.Book.{Book, newBook, Answer, answer, step}
 use Rattle.ledger.specs.Seen.{rowsOf, bookOf}
 use Rattle.ledger.specs.Promises.{laid, Begins}
-use Rattle.ledger.proofs.Kept.{Kept, kept-new, kept-few}
-use Rattle.script.specs.declared.Step.{Step}
-use Rattle.script.specs.declared.Line.{Line}
-use Rattle.script.specs.declared.Line.the-variants.{Does, Malformed}
-use Rattle.script.specs.declared.Played.{Played}
-use Rattle.script.specs.Script.{lineOf, stepIs, Plays}
+use Rattle.book.proofs.Kept.{Kept, kept-new, kept-few}
+use Rattle.spelling.specs.declared.LedgerStep.{LedgerStep}
+use Rattle.spelling.specs.declared.LedgerSaid.{LedgerSaid}
+use Rattle.spelling.specs.declared.LedgerSaid.the-variants.{Does, Malformed}
+use Rattle.ledger_text.specs.declared.Played.{Played}
+use Rattle.spelling.specs.LedgerReading.{ledgerSaidOf}
+use Rattle.spelling.specs.LedgerSteps.{stepIs}
+use Rattle.ledger_text.specs.Playing.{Plays}
 use Rattle.ledger_report.specs.Report.{readScript, answerTo, bookAfter, handsOut, answerLine, answerLines, senderLines, cursorLine, refusedIn, totals, lastLines, reportFor, reportOf}
 use Rattle.ledger_report.specs.Parts.{ledgerLines}
 use Rattle.ledger_report.proofs.Steps.{tags-few, count-held}
@@ -54,7 +56,7 @@ module _ (text : List ℕ) (at : ℕ) (h : at < length text) {end : ℕ} (e : en
   unfolding lineAt
   line-is = let n : lineLength (drop at text) ≡ end - at = omega arith in rw n refl
 
-  script-more : readScript (drop at text) ≡ lineOf (take (end - at) (drop at text)) ∷ readScript (drop (end + 1) text)
+  script-more : readScript (drop at text) ≡ ledgerSaidOf (take (end - at) (drop at text)) ∷ readScript (drop (end + 1) text)
   unfolding readScript
   script-more = rw (lines-at text at h, line-is, next-drop) refl
 
@@ -64,17 +66,17 @@ script-none text at h = rw (drop-of-length-le text h) refl
 
 -- ---- the report from a line on: k lines were played, r of them refused
 
-abbrev refusal : Book → Line → ℕ
+abbrev refusal : Book → LedgerSaid → ℕ
 refusal b x = cond (eqb (answerTo b x .number) 0) 0 1
 
 pub one-at-most : (k n : ℕ) → n ≡ cond (eqb k 0) 0 1 → n ≤ 1
 one-at-most k n e = rw e (cond-ind (λ m. m ≤ 1) (eqb k 0) 0 1 (λ e. omega arith) (λ e. omega arith))
 
-unfoldable pub restOf : ℕ → ℕ → Book → List Line → List ℕ
+unfoldable pub restOf : ℕ → ℕ → Book → List LedgerSaid → List ℕ
 restOf k r b [] = lastLines b k r
 restOf k r b (x ∷ l) = lineFor (k + 1) b x ++ restOf (k + 1) (r + refusal b x) (answerTo b x .book) l
 
-rest-is : (k r : ℕ) (b : Book) (l : List Line) → restOf k r b l ≡ answerLines (suc k) b l ++ lastLines (bookAfter b l) (k + length l) (r + refusedIn b l)
+rest-is : (k r : ℕ) (b : Book) (l : List LedgerSaid) → restOf k r b l ≡ answerLines (suc k) b l ++ lastLines (bookAfter b l) (k + length l) (r + refusedIn b l)
 unfolding restOf answerLines bookAfter refusedIn
 rest-is k r b [] = rw (add-zero, add-zero) refl
 rest-is k r b (x ∷ l) =
@@ -93,7 +95,7 @@ report-rest text = sym (rest-is 0 0 (newBook 0) (readScript text) ∙ rw (zero-a
 
 -- the tags of a hand-out stand at the buffer's front
 
-module _ (ledger : Ledger) (words tags : List ℕ) (s : Step) (r : Played) (words′ tags′ : List ℕ) (q : Plays ledger words tags s r words′ tags′) where
+module _ (ledger : Ledger) (words tags : List ℕ) (s : LedgerStep) (r : Played) (words′ tags′ : List ℕ) (q : Plays ledger words tags s r words′ tags′) where
   abbrev given : List ℕ
   given = step 16 (bookOf ledger words) (stepIs s) .tags
 
@@ -136,7 +138,7 @@ module _ (text room₀ : List ℕ) where
 
   module _ (ledger : Ledger) (words room : List ℕ) (at next lines refused : ℕ) (p : Playing text room₀ ledger words room at next lines refused) where
     -- the line x stands at the place and ends at `end`
-    module _ (h : at < length text) (end : ℕ) (e : end ≡ at + lineLength (drop at text)) (x : Line) (ex : x ≡ lineOf (take (end - at) (drop at text))) where
+    module _ (h : at < length text) (end : ℕ) (e : end ≡ at + lineLength (drop at text)) (x : LedgerSaid) (ex : x ≡ ledgerSaidOf (take (end - at) (drop at text))) where
       abbrev now : Book
       now = bookOf ledger words
 
@@ -184,7 +186,7 @@ module _ (text room₀ : List ℕ) where
         malformed-more room′ next′ s = here-more ledger words (sym same-book) (p .count) 1 (sym counted) room′ next′ (rw malformed-line s)
 
       -- a step
-      module _ (s : Step) (m : x ≡ Does s) (tags : List ℕ) (r : Played) (words′ tags′ : List ℕ) (q : Plays ledger words tags s r words′ tags′) where
+      module _ (s : LedgerStep) (m : x ≡ Does s) (tags : List ℕ) (r : Played) (words′ tags′ : List ℕ) (q : Plays ledger words tags s r words′ tags′) where
         does-line : lineFor (lines + 1) now x ≡ answerLine (lines + 1) (r .number) (r .handed) (take (r .count) tags′)
         unfolding answerTo handsOut
         does-line = rw (m, q .handed-is, front-is ledger words tags s r words′ tags′ q, q .tells .number-is) refl

@@ -5,15 +5,15 @@ use native.Mathlib.Numerals.{add-one}
 use mathlib.Core.List.{List, [], _∷_, _++_}
 use mathlib.Core.Path.{_≡_, refl}
 use lib.ListN.{length, length-append}
-use Rattle.runtext.specs.Spelling.{ascii, digits}
-use Rattle.runtext.specs.Stored.{Stored}
-use Rattle.runtext.proofs.Decimals.{digits-length}
-use Rattle.runtext.proofs.Stores.{room-front, room-after, stored-nil, stored-then, stored-length}
-use Rattle.runtext.proofs.Puts.{Put, put-then, put-last}
+use Rattle.spelling.specs.Numbers.{ascii, digits}
+use Rattle.spelling.specs.Stored.{Stored}
+use Rattle.spelling.proofs.Decimals.{digits-length}
+use Rattle.spelling.proofs.Stores.{room-front, room-after, stored-nil, stored-then, stored-length}
+use Rattle.spelling.proofs.Puts.{Put, put-then, put-last}
 use Rattle.kinds.specs.declared.SlotNo.{SlotNo}
 use Rattle.ledger.specs.declared.Row as code
 use Rattle.ledger.specs.declared.Row.the-variants.{Unknown, Joined, Ended}
-use Rattle.ledger.specs.Book.{Row, unknown, joined, ended}
+use Rattle.book.specs.Book.{Row, unknown, joined, ended}
 use Rattle.ledger.specs.Seen.{rowIs}
 use Rattle.ledger_report.specs.Report.{slotsText, senderLine, senderLines}
 

@@ -7,28 +7,28 @@ use mathlib.Core.List.{List, [], _∷_, _++_}
 use mathlib.Core.Path.{_≡_, refl, sym, ap, _∙_}
 use lib.Dec.{eqb}
 use lib.ListN.{length, length-append, length-map}
-use Rattle.published.proofs.Tests.{split, clash}
+use Rattle.common.proofs.Tests.{split, clash}
 use Rattle.ledger.specs.declared.Ledger.{Ledger}
 use Rattle.ledger.specs.declared.Told.{Told}
-use Rattle.ledger.specs.Book as book
-use Rattle.ledger.specs.Book.{Sweep, only, Book, withRow, Answer, answer, after, step}
+use Rattle.book.specs.Book as book
+use Rattle.book.specs.Book.{Sweep, only, Book, withRow, Answer, answer, after, step}
 use Rattle.ledger.specs.Seen.{bookOf}
 use Rattle.ledger.specs.Promises.{movesHeld, Tells}
-use Rattle.ledger.specs.Traffic.{bookFrom, accepted, handedOut, inOrder, along, tally}
-use Rattle.ledger.proofs.Outcomes.{step-ind, join-ind, sweep-ind, close-ind, end-ind, handOut-ind}
-use Rattle.ledger.proofs.Kept.{Kept}
-use Rattle.ledger.proofs.Tags.{tags-inOrder}
-use Rattle.ledger.proofs.Accounts.{balance-from}
-use Rattle.script.specs.declared.Step.{Step}
-use Rattle.script.specs.declared.Step.the-variants as does
-use Rattle.script.specs.Script.{stepIs}
+use Rattle.book.specs.Traffic.{bookFrom, accepted, handedOut, inOrder, along, tally}
+use Rattle.book.proofs.Outcomes.{step-ind, join-ind, sweep-ind, close-ind, end-ind, handOut-ind}
+use Rattle.book.proofs.Kept.{Kept}
+use Rattle.book.proofs.Tags.{tags-inOrder}
+use Rattle.book.proofs.Accounts.{balance-from}
+use Rattle.spelling.specs.declared.LedgerStep.{LedgerStep}
+use Rattle.spelling.specs.declared.LedgerStep.the-variants as does
+use Rattle.spelling.specs.LedgerSteps.{stepIs}
 
 -- ---- a receiving buffer has at most 1,024 places
 
 abbrev Few : Answer → Type 0
 Few a = length (a .tags) ≤ 1024
 
-pub tags-few : (b : Book) (s : Step) → length (step 16 b (stepIs s) .tags) ≤ 1024
+pub tags-few : (b : Book) (s : LedgerStep) → length (step 16 b (stepIs s) .tags) ≤ 1024
 unfolding stepIs answer
 tags-few b (does.Join s f) = join-ind 16 b Few (s .0) (f .0) (λ k z. omega arith) (λ i e g u. omega arith)
 tags-few b (does.Sweep s t) = sweep-ind 16 b Few (s .0) t (λ k z. omega arith) (λ f o i e u g. omega arith)

@@ -5,29 +5,30 @@ use mathlib.Core.Bool.{Bool, true, false, cond, _&&_}
 use mathlib.Core.List.{List, [], _∷_, _++_, map}
 use lib.Dec.{eqb}
 use lib.ListN.{length}
-use Rattle.runtext.specs.Spelling.{ascii, digits}
-use Rattle.runtext.specs.Text.{linesOf}
-use Rattle.ledger.specs.Book.{Row, unknown, joined, ended, Book, newBook, Answer, answer, step}
-use Rattle.script.specs.declared.Line.{Line}
-use Rattle.script.specs.declared.Line.the-variants.{Does, Malformed}
-use Rattle.script.specs.Script.{lineOf, stepIs, isHandOut}
+use Rattle.spelling.specs.Numbers.{ascii, digits}
+use Rattle.spelling.specs.Lines.{linesOf}
+use Rattle.book.specs.Book.{Row, unknown, joined, ended, Book, newBook, Answer, answer, step}
+use Rattle.spelling.specs.declared.LedgerSaid.{LedgerSaid}
+use Rattle.spelling.specs.declared.LedgerSaid.the-variants.{Does, Malformed}
+use Rattle.spelling.specs.LedgerReading.{ledgerSaidOf}
+use Rattle.spelling.specs.LedgerSteps.{stepIs, isHandOut}
 
 -- ---- How a script is played: a malformed line changes nothing, and reading goes on
 
-unfoldable pub readScript : List ℕ → List Line
-readScript text = map lineOf (linesOf text)
+unfoldable pub readScript : List ℕ → List LedgerSaid
+readScript text = map ledgerSaidOf (linesOf text)
 
-unfoldable pub answerTo : Book → Line → Answer
+unfoldable pub answerTo : Book → LedgerSaid → Answer
 answerTo b (Does s) = step 16 b (stepIs s)
 answerTo b Malformed = answer 20 [] b
 
-unfoldable pub bookAfter : Book → List Line → Book
+unfoldable pub bookAfter : Book → List LedgerSaid → Book
 bookAfter b [] = b
 bookAfter b (x ∷ l) = bookAfter (answerTo b x .book) l
 
 -- ---- One line for each line of the script: its number from 1, the answer; of a hand-out that is done the count of tags, and the tags, if any
 
-unfoldable pub handsOut : Line → Bool
+unfoldable pub handsOut : LedgerSaid → Bool
 handsOut (Does s) = isHandOut s
 handsOut Malformed = false
 
@@ -46,7 +47,7 @@ handedText false tags = []
 unfoldable pub answerLine : ℕ → ℕ → Bool → List ℕ → List ℕ
 answerLine k a handed tags = ascii "line=" ++ (digits k ++ (ascii " answer=" ++ (digits a ++ (handedText handed tags ++ (10 ∷ [])))))
 
-unfoldable pub answerLines : ℕ → Book → List Line → List ℕ
+unfoldable pub answerLines : ℕ → Book → List LedgerSaid → List ℕ
 answerLines k b [] = []
 answerLines k b (x ∷ l) =
     answerLine k (answerTo b x .number) (eqb (answerTo b x .number) 0 && handsOut x) (answerTo b x .tags)
@@ -74,7 +75,7 @@ cursorLine next held = ascii "next=" ++ (digits next ++ (ascii " held=" ++ (digi
 
 -- ---- The number of lines, and of lines not answered 0
 
-unfoldable pub refusedIn : Book → List Line → ℕ
+unfoldable pub refusedIn : Book → List LedgerSaid → ℕ
 refusedIn b [] = 0
 refusedIn b (x ∷ l) = cond (eqb (answerTo b x .number) 0) 0 1 + refusedIn (answerTo b x .book) l
 
@@ -87,7 +88,7 @@ totals lines refused = ascii "lines=" ++ (digits lines ++ (ascii " refused=" ++ 
 unfoldable pub lastLines : Book → ℕ → ℕ → List ℕ
 lastLines b lines refused = senderLines 16 (b .rows) ++ (cursorLine (b .next) (length (b .held)) ++ totals lines refused)
 
-unfoldable pub reportFor : Book → List Line → List ℕ
+unfoldable pub reportFor : Book → List LedgerSaid → List ℕ
 reportFor b l = answerLines 1 b l ++ lastLines (bookAfter b l) (length l) (refusedIn b l)
 
 -- a script is played on a new ledger

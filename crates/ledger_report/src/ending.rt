@@ -1,13 +1,13 @@
 // What stands behind the answers' lines: the senders' lines, the cursor's and the totals'.
 ghost use Prim.Native.Nat.{_+_, _≤_};
 ghost use lib.ListN.{length};
-ghost use Rattle.runtext.specs.Stored.{Stored};
+ghost use Rattle.spelling.specs.Stored.{Stored};
 ghost use Rattle.ledger_report.specs.Report.{cursorLine, totals};
 ghost use Rattle.ledger_report.specs.Parts.{ledgerLines};
 use crate::senders::store_senders;
 use ledger::Ledger;
-use runtext::bytes::put_bytes;
-use runtext::decimal::put_field;
+use room::bytes::put_bytes;
+use room::decimal::put_field;
 
 pub(crate) fn store_end(
     room: &mut [u8],

@@ -4,15 +4,16 @@ ghost use mathlib.Core.Bool.{cond};
 ghost use Prim.Native.Nat.{_≤_};
 ghost use lib.Dec.{eqb};
 ghost use lib.ListN.{length};
-ghost use Rattle.runtext.specs.Stored.{Stored};
+ghost use Rattle.spelling.specs.Stored.{Stored};
 ghost use Rattle.ledger_report.specs.Report.{reportOf};
 use crate::answers::store_answer;
 use crate::ending::store_end;
+use kinds::AnswerNo;
 use kinds::SlotNo;
-use runtext::bytes::line_end;
-use script::Line;
-use script::playing::play;
-use script::reading::read_line;
+use ledger_text::playing::play;
+use ledger_text::reading::read_line;
+use spelling::LedgerSaid;
+use text::bytes::line_end;
 
 // Plays the script and stores its report at the room's front. Answers the place behind it.
 pub(crate) fn play_text(text: &[u8], room: &mut [u8]) -> usize
@@ -31,7 +32,7 @@ pub(crate) fn play_text(text: &[u8], room: &mut [u8]) -> usize
         let line = read_line(&text[at..stop]);
         at = stop + 1;
         lines += 1;
-        let Line::Does(step) = line else {
+        let LedgerSaid::Does(step) = line else {
             next = store_answer(room, next, lines, 20, false, &tags[..0]);
             refused += 1;
             continue;
@@ -52,7 +53,7 @@ pub(crate) fn play_text(text: &[u8], room: &mut [u8]) -> usize
     store_end(room, next, ledger, lines, refused)
 }
 
-fn refusal(number: u32) -> u32
+fn refusal(number: AnswerNo) -> u32
     ensures { λ r. ⌜ r ≡ cond (eqb number 0) 0 1 ⌝ }
 {
     if number == 0 {

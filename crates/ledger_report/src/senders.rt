@@ -1,15 +1,15 @@
 // One line for each sender that has joined, in rising number: `sender=1 first=0 open=2 end=none`.
 ghost use Prim.Native.Nat.{_+_, _≤_};
 ghost use lib.ListN.{length};
-ghost use Rattle.runtext.specs.Stored.{Stored};
+ghost use Rattle.spelling.specs.Stored.{Stored};
 ghost use Rattle.ledger.specs.Seen.{rowIs, rowsOf};
 ghost use Rattle.ledger_report.specs.Report.{slotsText, senderLine, senderLines};
 use kinds::BenchNo;
 use ledger::Ledger;
 use ledger::Row;
 use ledger::row_of;
-use runtext::bytes::put_bytes;
-use runtext::decimal::put_field;
+use room::bytes::put_bytes;
+use room::decimal::put_field;
 
 pub(crate) fn store_senders(room: &mut [u8], at: usize, ledger: Ledger) -> usize
     requires { ⌜ at + length (senderLines 16 (rowsOf (ledger .seats))) ≤ length (now room) ⌝ }

@@ -19,7 +19,7 @@ fn main() {
     }
 }
 
-fn print_refusal(number: u32) {
+fn print_refusal(number: u8) {
     io::write_all(STDOUT_FILENO, b"refused=");
     io::print_decimal(STDOUT_FILENO, number as u64);
     io::write_all(STDOUT_FILENO, b"\n");

@@ -4,9 +4,11 @@ use mathlib.Core.Path.{_≡_, refl, ap, _∙_}
 use Prim.Native.Nat.{ℕ, suc}
 use mathlib.Core.Bool.{true, false}
 use mathlib.Core.List.{List, [], _++_, append-nil}
-use Rattle.published.specs.Rounds.{Run, Bench, Message, absent, found, running, failed, member, put, find, hasOut, decides, settled}
-use Rattle.published.proofs.Updates.{put-ind}
-use Rattle.published.proofs.Worlds.{In}
+use Rattle.published.specs.Rounds.{Run, Bench, Message, absent, found, running, failed, find, hasOut, decides, settled}
+use Rattle.common.specs.Worlds.{member}
+use Rattle.common.specs.Updates.{put}
+use Rattle.common.proofs.Updates.{put-ind}
+use Rattle.common.proofs.Benches.{In}
 use Rattle.published.proofs.Messages.{find-append, find-found, Pre, pre-more}
 use Rattle.published.proofs.Moves.{Up}
 use Rattle.published.proofs.Invariant.{M, Mute, WfB, stays, mute, dead, Came, Base}

@@ -6,10 +6,13 @@ use mathlib.Core.Bool.{true}
 use native.Mathlib.Omega.{arith}
 use lib.Dec.{eqb}
 use borrow.Author.Tests.{eqb-true, eqb-false}
-use Rattle.published.specs.Rounds.{Run, Bench, running, chosen, member, within, put, find, hasOut, got, see, agrees, decides, decidesOn, newRun, newBench, inState, inRound, sending, taking, noticing, choosing, entering, parting, deciding, advancing, Limit, Step}
-use Rattle.published.proofs.Tests.{both, split, clash}
-use Rattle.published.proofs.Updates.{put-ind}
-use Rattle.published.proofs.Worlds.{In, everyIn-get, Sub, within-get}
+use Rattle.published.specs.Rounds.{Run, Bench, running, chosen, find, hasOut, got, see, agrees, decides, decidesOn, newRun, newBench, inState, inRound, sending, taking, noticing, choosing, entering, parting, deciding, advancing, Limit, Step}
+use Rattle.common.specs.Worlds.{member, within}
+use Rattle.common.specs.Updates.{put}
+use Rattle.common.proofs.Tests.{both, split, clash}
+use Rattle.common.proofs.Updates.{put-ind}
+use Rattle.common.proofs.Benches.{In}
+use Rattle.common.proofs.Worlds.{everyIn-get, Sub, within-get}
 use Rattle.published.proofs.Messages.{never}
 use Rattle.published.proofs.Views.{viewOf-ind}
 use Rattle.published.proofs.Moves.{running-live, Move, starts, abstains, leaves, leaves-silent, fails, takes, notices, concludes, advances}

@@ -4,10 +4,12 @@ use Prim.Native.Nat.{ℕ, zero}
 use mathlib.Core.Bool.{true, not, _||_}
 use mathlib.Core.List.{List, [], _∷_}
 use native.Mathlib.Omega.{arith}
-use Rattle.published.specs.Rounds.{Run, Bench, Message, Round, Out, absent, found, fresh, running, left, abstained, failed, member, put, find, hasOut, hasStarted, isGone, isFresh, isRunning, startedWith, hasAll, inAll, newRun, newBench, inState, sending, taking, noticing, entering, parting, advancing, Limit, Step}
-use Rattle.published.proofs.Tests.{clash}
-use Rattle.published.proofs.Updates.{put-ind}
-use Rattle.published.proofs.Worlds.{In, every-get}
+use Rattle.published.specs.Rounds.{Run, Bench, Message, Round, Out, absent, found, fresh, running, left, abstained, failed, find, hasOut, hasStarted, isGone, isFresh, isRunning, startedWith, hasAll, inAll, newRun, newBench, inState, sending, taking, noticing, entering, parting, advancing, Limit, Step}
+use Rattle.common.specs.Worlds.{member}
+use Rattle.common.specs.Updates.{put}
+use Rattle.common.proofs.Tests.{clash}
+use Rattle.common.proofs.Updates.{put-ind}
+use Rattle.common.proofs.Benches.{In, every-get}
 use Rattle.published.proofs.Messages.{never, find-one, tidy-nil}
 use Rattle.published.proofs.Moves.{live, fresh-live, running-live, live-up, here-up, Move, starts, abstains, leaves, leaves-silent, fails, takes, notices, concludes, advances}
 use Rattle.published.proofs.Invariant.{M, Base, began, kept}

@@ -8,9 +8,11 @@ use mathlib.Core.List.{List, []}
 use native.Mathlib.Omega.{arith}
 use lib.Dec.{eqb}
 use borrow.Author.Tests.{eqb-true, eqb-false}
-use Rattle.published.specs.Rounds.{Run, Bench, Message, absent, found, State, fresh, running, failed, member, find, hasOut}
-use Rattle.published.proofs.Tests.{split}
-use Rattle.published.proofs.Worlds.{In, Sub}
+use Rattle.published.specs.Rounds.{Run, Bench, Message, absent, found, State, fresh, running, failed, find, hasOut}
+use Rattle.common.specs.Worlds.{member}
+use Rattle.common.proofs.Tests.{split}
+use Rattle.common.proofs.Benches.{In}
+use Rattle.common.proofs.Worlds.{Sub}
 use Rattle.published.proofs.Messages.{tidy, Pre}
 use Rattle.published.proofs.Moves.{Up, live, running-live, live-up}
 

@@ -1,9 +1,6 @@
-pub mod Tests
-pub mod Updates
-pub mod Worlds
 pub mod Messages
 pub mod Views
-pub mod Checks
+pub mod Numbers
 pub mod Moves
 pub mod Invariant
 pub mod Changes

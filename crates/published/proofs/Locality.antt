@@ -2,15 +2,16 @@
 -- A history is the list of what befell one bench; replaying it from a new bench gives the bench that the run has. Assumes nothing.
 use mathlib.Core.Path.{_≡_, refl, sym, ap, _∙_}
 use Prim.Native.Nat.{ℕ}
-use mathlib.Core.Bool.{true, false, cond, _&&_}
+use mathlib.Core.Bool.{cond, _&&_}
 use mathlib.Core.List.{List, [], _∷_, _++_}
 use native.Mathlib.Omega.{arith}
 use lib.Dec.{eqb}
 use borrow.Author.Tests.{eqb-true, eqb-false, ne-eqb}
-use Rattle.published.specs.Rounds.{Run, Bench, Message, abstained, failed, put, inState, entering, parting, leaving, turned, taking, takingFirst, noticing, waiting, Limit, Step, start, abstain, leave, fail, turn, arrive, notice, Check, needs, checks, after, Answer, refuse, done, judge, step, runFrom}
-use Rattle.published.proofs.Tests.{split}
-use Rattle.published.proofs.Updates.{put-same, put-other}
-use Rattle.published.proofs.Checks.{Verdict, against, for, judged, refusal-range}
+use Rattle.published.specs.Rounds.{Run, Bench, Message, abstained, failed, inState, entering, parting, leaving, turned, taking, takingFirst, noticing, waiting, Limit, Step, start, abstain, leave, fail, turn, arrive, notice, checks, after, refuse, done, step, runFrom}
+use Rattle.common.proofs.Tests.{split}
+use Rattle.common.proofs.Updates.{put-same, put-other}
+use Rattle.common.proofs.Checks.{judge-ind, judge-both}
+use Rattle.published.proofs.Numbers.{refusal-range}
 
 -- ---- what befalls a bench
 
@@ -101,13 +102,12 @@ after-there n s (notice c f) b ne = put-other s c _ b ne
 
 step-history : (n : ℕ) (lim : Limit) (s : Run) (b : ℕ) (a : Step) → step n lim s a .run b ≡ replay n b (s b) (brings n lim s b a)
 unfolding brings step
-step-history n lim s b a = go (judge s (checks n lim s a) (after n s a)) (judged s (after n s a) (checks n lim s a))
-  where
-    go : (r : Answer) → Verdict s (after n s a) (checks n lim s a) r → r .run b ≡ replay n b (s b) (cond (eqb (r .number) 0 && eqb (benchOf a) b) (eventsOf s a) [])
-    go r (against k f) = unfold refuse replay in rw (ne-eqb k 0 (omega (arith, refusal-range n lim s a k f))) refl
-    go r (for h) = unfold done replay in split (eqb (benchOf a) b)
-        (λ e. rw e (let z = eqb-true (benchOf a) b e in rw (← z) (after-here n s a)))
-        (λ e. rw e (after-there n s a b (λ z. eqb-false (benchOf a) b e (sym z))))
+step-history n lim s b a = judge-ind (λ r. r .run b ≡ replay n b (s b) (cond (eqb (r .number) 0 && eqb (benchOf a) b) (eventsOf s a) []))
+    (λ k. refuse k s) (checks n lim s a) (done (after n s a))
+    (λ k f. unfold refuse replay in rw (ne-eqb k 0 (omega (arith, refusal-range n lim s a k f))) refl)
+    (λ h. unfold done replay in split (eqb (benchOf a) b)
+    (λ e. rw e (let z = eqb-true (benchOf a) b e in rw (← z) (after-here n s a)))
+    (λ e. rw e (after-there n s a b (λ z. eqb-false (benchOf a) b e (sym z)))))
 
 pub bench-history : (n : ℕ) (lim : Limit) (s : Run) (b : ℕ) (l : List Step) → runFrom n lim s l b ≡ replay n b (s b) (history n lim s b l)
 unfolding history runFrom replay
@@ -119,30 +119,20 @@ bench-history n lim s b (a ∷ l) =
 
 -- ---- turn looks at the bench alone
 
-judge-number : (s s′ next next′ : Run) (l : List Check) → judge s l next .number ≡ judge s′ l next′ .number
-unfolding judge refuse done
-judge-number s s′ next next′ [] = refl
-judge-number s s′ next next′ (needs k true ∷ l) = judge-number s s′ next next′ l
-judge-number s s′ next next′ (needs k false ∷ l) = refl
-
 -- the number that turn answers, by the bench alone
 turn-checks : (n : ℕ) (lim : Limit) (s s′ : Run) (b : ℕ) → s b ≡ s′ b → checks n lim s (turn b) ≡ checks n lim s′ (turn b)
 unfolding checks
 turn-checks n lim s s′ b e = rw e refl
 
 pub turn-number : (n : ℕ) (lim : Limit) (s s′ : Run) (b : ℕ) → s b ≡ s′ b → step n lim s (turn b) .number ≡ step n lim s′ (turn b) .number
-unfolding step
-turn-number n lim s s′ b e = rw (turn-checks n lim s s′ b e) (judge-number s s′ (after n s (turn b)) (after n s′ (turn b)) (checks n lim s′ (turn b)))
-
-judge-at : (b : ℕ) (s s′ next next′ : Run) (l : List Check) → s b ≡ s′ b → next b ≡ next′ b → judge s l next .run b ≡ judge s′ l next′ .run b
-unfolding judge refuse done
-judge-at b s s′ next next′ [] e f = f
-judge-at b s s′ next next′ (needs k true ∷ l) e f = judge-at b s s′ next next′ l e f
-judge-at b s s′ next next′ (needs k false ∷ l) e f = e
+unfolding step refuse done
+turn-number n lim s s′ b e = rw (turn-checks n lim s s′ b e)
+    (judge-both (λ x y. x .number ≡ y .number) (λ k. refuse k s) (λ k. refuse k s′) (done (after n s (turn b))) (done (after n s′ (turn b))) (checks n lim s′ (turn b))
+    (λ k. refl) refl)
 
 -- and what it becomes
 pub turn-becomes : (n : ℕ) (lim : Limit) (s s′ : Run) (b : ℕ) → s b ≡ s′ b → step n lim s (turn b) .run b ≡ step n lim s′ (turn b) .run b
-unfolding step after
+unfolding step after refuse done
 turn-becomes n lim s s′ b e = rw (turn-checks n lim s s′ b e)
-    (judge-at b s s′ (put s b (turned n b (s b))) (put s′ b (turned n b (s′ b))) (checks n lim s′ (turn b)) e
+    (judge-both (λ x y. x .run b ≡ y .run b) (λ k. refuse k s) (λ k. refuse k s′) (done (after n s (turn b))) (done (after n s′ (turn b))) (checks n lim s′ (turn b)) (λ k. e)
     (put-same s b (turned n b (s b)) ∙ ap (λ x. turned n b x) e ∙ sym (put-same s′ b (turned n b (s′ b)))))

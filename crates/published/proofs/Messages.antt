@@ -7,7 +7,7 @@ use lib.ListN.{length, drop}
 use lib.Dec.{eqb}
 use borrow.Author.Tests.{eqb-true}
 use Rattle.published.specs.Rounds.{Message, Round, Out, Found, absent, found, find, hasOut}
-use Rattle.published.proofs.Tests.{clash, split}
+use Rattle.common.proofs.Tests.{clash, split}
 
 -- ---- the round r message, and OUT
 

@@ -5,13 +5,17 @@ use Prim.Native.Nat.{ℕ, zero, suc, _^_, _≤_, _<_}
 use mathlib.Core.Bool.{Bool, true, false, _||_, false≢true}
 use mathlib.Core.List.{List, [], _∷_}
 use native.Mathlib.Omega.{arith}
-use lib.Dec.{eqb, leb, ltb}
+use lib.Dec.{eqb, ltb}
 use borrow.Author.Tests.{eqb-false, leb-true, ltb-true, not-true}
-use Rattle.published.specs.Rounds.{Run, Bench, Message, State, fresh, running, decided, abstained, left, failed, put, hasOut, member, decides, settled, entering, parting, inState, taking, takingFirst, noticing, deciding, advancing, turned, leaving}
-use Rattle.published.specs.Rounds.{isBench, isFresh, isRunning, isFailed, isGone, hasAll, inAll, waiting, some, Limit, allows, Step, start, abstain, leave, fail, turn, arrive, notice, checks, after, Answer, refuse, done, judge, step}
-use Rattle.published.proofs.Tests.{both, clash, cond-ind}
-use Rattle.published.proofs.Worlds.{In}
-use Rattle.published.proofs.Checks.{Holds, nothing, also, Fails, Verdict, against, for, judged, refusal-range}
+use Rattle.published.specs.Rounds.{Run, Bench, Message, State, fresh, running, decided, abstained, left, failed, hasOut, decides, settled, entering, parting, inState, taking, takingFirst, noticing, deciding, advancing, turned, leaving}
+use Rattle.common.specs.Updates.{put}
+use Rattle.common.specs.Worlds.{member}
+use Rattle.common.specs.Benches.{isBench}
+use Rattle.published.specs.Rounds.{isFresh, isRunning, isFailed, isGone, hasAll, inAll, waiting, some, Limit, allows, Step, start, abstain, leave, fail, turn, arrive, notice, checks, after, Answer, refuse, done, step}
+use Rattle.common.proofs.Tests.{both, clash, cond-ind}
+use Rattle.common.proofs.Benches.{In, bench-in}
+use Rattle.common.proofs.Checks.{Holds, nothing, also, Fails, judge-ind}
+use Rattle.published.proofs.Numbers.{refusal-range}
 
 -- ---- states
 
@@ -65,10 +69,6 @@ failed-is decided e = absurd (false≢true e)
 failed-is abstained e = absurd (false≢true e)
 failed-is left e = absurd (false≢true e)
 failed-is failed e = refl
-
-pub bench-in : (n b : ℕ) → isBench n b ≡ true → In n b
-unfolding isBench
-bench-in n b e = let p = both (leb 1 b) (leb b n) e in (leb-true 1 b (p .0), leb-true b n (p .1))
 
 -- ---- moves
 
@@ -152,12 +152,8 @@ module _ (n : ℕ) (lim : Limit) (s : Run) where
 
   pub step-outcome : (a : Step) → Outcome n lim s a (step n lim s a)
   unfolding step
-  step-outcome a = go (judge s (checks n lim s a) (after n s a)) (judged s (after n s a) (checks n lim s a))
+  step-outcome a = judge-ind (Outcome n lim s a) (λ k. refuse k s) (checks n lim s a) (done (after n s a)) positive (moves a)
     where
       positive : (k : ℕ) → Fails (checks n lim s a) k → Outcome n lim s a (refuse k s)
       positive zero f = absurd (omega (arith, refusal-range n lim s a zero f))
       positive (suc k) f = refused k f
-
-      go : (r : Answer) → Verdict s (after n s a) (checks n lim s a) r → Outcome n lim s a r
-      go r (against k f) = positive k f
-      go r (for h) = moves a h

@@ -7,9 +7,11 @@ use native.Mathlib.Omega.{arith}
 use lib.ListN.{length, drop}
 use lib.Dec.{eqb}
 use borrow.Author.Tests.{eqb-true, eq-eqb}
-use Rattle.published.specs.Rounds.{Run, Message, Round, absent, found, heard, running, member, find, hasOut, viewOf, got, see, isAwaited, isHeard, decides, settled, settledOn, nextWorld, heardOn, nextValue, entering}
-use Rattle.published.proofs.Tests.{both, clash, cond-ind}
-use Rattle.published.proofs.Worlds.{In, everyIn-get, member-worldOf}
+use Rattle.published.specs.Rounds.{Run, Message, Round, absent, found, heard, running, find, hasOut, viewOf, got, see, isAwaited, isHeard, decides, settled, settledOn, nextWorld, heardOn, nextValue, entering}
+use Rattle.common.specs.Worlds.{member}
+use Rattle.common.proofs.Tests.{both, clash, cond-ind}
+use Rattle.common.proofs.Benches.{In}
+use Rattle.common.proofs.Worlds.{everyIn-get, member-worldOf}
 use Rattle.published.proofs.Messages.{find-found, find-one, all-taken}
 use Rattle.published.proofs.Views.{viewOf-ind, see-heard, least-le, least-min, From, own, other, least-from}
 use Rattle.published.proofs.Invariant.{M, Mute, Stays, stays, mute, dead, Origin, Came, Base, running-in}

@@ -5,8 +5,9 @@ use Prim.Native.Nat.{ℕ, zero, suc, _≤_}
 use mathlib.Core.Bool.{true}
 use mathlib.Core.List.{List, [], _∷_}
 use native.Mathlib.Omega.{arith}
-use Rattle.published.specs.Rounds.{Run, running, chosen, member, Limit, Step, Answer, refuse, done, step, runFrom, newRun}
-use Rattle.published.proofs.Worlds.{In}
+use Rattle.published.specs.Rounds.{Run, running, chosen, Limit, Step, Answer, refuse, done, step, runFrom, newRun}
+use Rattle.common.specs.Worlds.{member}
+use Rattle.common.proofs.Benches.{In}
 use Rattle.published.proofs.Moves.{Outcome, refused, moved, step-outcome}
 use Rattle.published.proofs.Invariant.{M, Base, positive}
 use Rattle.published.proofs.Decisions.{Inv, cert-now, inv-move, inv-new}

@@ -4,7 +4,7 @@ use Prim.Native.Nat.{ℕ, suc, _≤_}
 use mathlib.Core.List.{[], _∷_, _++_}
 use native.Mathlib.Omega.{arith}
 use Rattle.published.specs.Rounds.{Run, Bench, Round, found, chosen, find, inState, inRound, sending, taking, noticing, choosing, entering, parting, deciding, advancing, nextValue, nextWorld, Limit, Step, start, Answer, refuse, done, step}
-use Rattle.published.proofs.Updates.{put-ind}
+use Rattle.common.proofs.Updates.{put-ind}
 use Rattle.published.proofs.Messages.{find-append, find-one, find-out}
 use Rattle.published.proofs.Moves.{Move, starts, abstains, leaves, leaves-silent, fails, takes, notices, concludes, advances, Outcome, refused, moved, step-outcome}
 use Rattle.published.proofs.Invariant.{M}

@@ -6,8 +6,9 @@ use mathlib.Core.List.{List, [], _∷_, map}
 use lib.Dec.{eqb}
 use borrow.Author.Tests.{eqb-true, eqb-false}
 use Rattle.published.specs.Rounds.{Run, Limit, Step, Answer, refuse, done, step, runFrom, answers}
-use Rattle.published.proofs.Tests.{cond-ind}
-use Rattle.published.proofs.Checks.{OneOf, first, further, refusals, refusal-among}
+use Rattle.common.proofs.Tests.{cond-ind}
+use Rattle.common.proofs.Checks.{OneOf, first, further}
+use Rattle.published.proofs.Numbers.{refusals, refusal-among}
 use Rattle.published.proofs.Moves.{Outcome, refused, moved, step-outcome}
 
 module _ (n : ℕ) (lim : Limit) where

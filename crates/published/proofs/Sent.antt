@@ -6,8 +6,8 @@ use mathlib.Core.List.{List, [], _∷_, _++_, append-nil}
 use native.Mathlib.Omega.{arith}
 use borrow.Author.Tests.{eq-eqb}
 use Rattle.published.specs.Rounds.{Run, Bench, Message, Round, Out, Found, absent, found, State, fresh, running, decided, failed, find, hasOut, isFresh, isRunning, inState, inRound, sending, taking, noticing, choosing, entering, parting, deciding, waiting}
-use Rattle.published.proofs.Tests.{clash}
-use Rattle.published.proofs.Updates.{put-ind}
+use Rattle.common.proofs.Tests.{clash}
+use Rattle.common.proofs.Updates.{put-ind}
 use Rattle.published.proofs.Messages.{find-append, find-absent, find-one, find-out, hasOut-append, hasOut-last, tidy, tidy-snoc, Pre, pre-next}
 use Rattle.published.proofs.Moves.{Up, live, fresh-live, running-live, live-up}
 use Rattle.published.proofs.Invariant.{Wf, WfB, Base}

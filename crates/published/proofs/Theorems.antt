@@ -4,9 +4,11 @@ use mathlib.Core.Path.{_≡_, sym, _∙_}
 use Prim.Native.Nat.{ℕ, suc, _≤_}
 use mathlib.Core.Bool.{true}
 use mathlib.Core.List.{List, _∷_, map}
-use Rattle.published.specs.Rounds.{Run, running, chosen, member, Limit, Step, turn, step, runFrom, answers, newRun}
-use Rattle.published.proofs.Worlds.{In}
-use Rattle.published.proofs.Checks.{OneOf, refusals}
+use Rattle.published.specs.Rounds.{Run, running, chosen, Limit, Step, turn, step, runFrom, answers, newRun}
+use Rattle.common.specs.Worlds.{member}
+use Rattle.common.proofs.Benches.{In}
+use Rattle.common.proofs.Checks.{OneOf}
+use Rattle.published.proofs.Numbers.{refusals}
 use Rattle.published.proofs.Invariant.{M}
 use Rattle.published.proofs.Reached.{Proposed, Bounded, reached-run, decisions-agree, decision-proposed, decision-bounded}
 use Rattle.published.proofs.Reached as reached

@@ -5,9 +5,11 @@ use mathlib.Core.Bool.{Bool, true, false, not}
 use native.Mathlib.Omega.{arith}
 use lib.Dec.{eqb, leb}
 use borrow.Author.Tests.{eqb-true, eqb-false, leb-true, leb-false}
-use Rattle.published.specs.Rounds.{Bench, Found, absent, found, View, heard, excused, missed, awaited, member, find, hasOut, viewOf, got, see, isAwaited, agrees, lesser, leastOn, decides, decidesOn, settled, settledOn}
-use Rattle.published.proofs.Tests.{split}
-use Rattle.published.proofs.Worlds.{In, everyIn-get, everyIn-make}
+use Rattle.published.specs.Rounds.{Bench, Found, absent, found, View, heard, excused, missed, awaited, find, hasOut, viewOf, got, see, isAwaited, agrees, lesser, leastOn, decides, decidesOn, settled, settledOn}
+use Rattle.common.specs.Worlds.{member}
+use Rattle.common.proofs.Tests.{split}
+use Rattle.common.proofs.Benches.{In}
+use Rattle.common.proofs.Worlds.{everyIn-get, everyIn-make}
 
 -- ---- heard, excused, missed, awaited
 

@@ -1,38 +1,14 @@
 -- The published rounds, as document 01 states them, for a table of n benches and an optional limit on rounds.
 -- This file is to be believed: it says again, in document 01's words and order, what every promise about a run comes down to.
-use Prim.Native.Nat.{ℕ, zero, suc, _+_, _*_, _/_, _%_, _^_, min}
+use Prim.Native.Nat.{ℕ, zero, suc, _^_, min}
 use mathlib.Core.Bool.{Bool, true, false, cond, not, _&&_, _||_}
 use mathlib.Core.List.{List, [], _∷_, _++_}
 use lib.ListN.{length, drop}
 use lib.Dec.{eqb, leb, ltb}
-
--- ---- Worlds. A world is a set of benches, held as a number: bench i is bit i - 1.
-
-unfoldable pub bit : ℕ → ℕ → Bool
-bit zero w = eqb (w % 2) 1
-bit (suc i) w = bit i (w / 2)
-
-unfoldable pub member : ℕ → ℕ → Bool
-member zero w = false
-member (suc i) w = bit i w
-
--- the test holds of each bench 1 to n
-unfoldable pub every : ℕ → (ℕ → Bool) → Bool
-every zero p = true
-every (suc n) p = every n p && p (suc n)
-
--- the test holds of each member of w
-unfoldable pub everyIn : ℕ → ℕ → (ℕ → Bool) → Bool
-everyIn n w p = every n (λ i. not (member i w) || p i)
-
--- each member of u is one of w
-unfoldable pub within : ℕ → ℕ → ℕ → Bool
-within n u w = everyIn n u (λ i. member i w)
-
--- the world of those benches 1 to n of which the test holds
-unfoldable pub worldOf : ℕ → (ℕ → Bool) → ℕ
-worldOf zero p = 0
-worldOf (suc n) p = cond (p 1) 1 0 + 2 * worldOf n (λ i. p (suc i))
+use Rattle.common.specs.Benches.{isBench, every}
+use Rattle.common.specs.Worlds.{member, everyIn, within, worldOf}
+use Rattle.common.specs.Updates.{put}
+use Rattle.common.specs.Checks.{Check, needs, judge}
 
 -- ---- A bench and its line
 
@@ -68,10 +44,6 @@ newBench = record { state = fresh; round = 0; value = 0; world = 0; sent = []; t
 
 unfoldable pub newRun : Run
 newRun i = newBench
-
--- the function s, but x at b
-unfoldable pub put : {A : Type 0} → (ℕ → A) → ℕ → A → ℕ → A
-put s b x i = cond (eqb i b) x (s i)
 
 -- ---- What a step makes of a bench
 
@@ -205,9 +177,6 @@ leaving x = cond (hasOut (x .sent)) (inState left x) (parting left x)
 
 -- ---- What the checks ask
 
-unfoldable pub isBench : ℕ → ℕ → Bool
-isBench n b = leb 1 b && leb b n
-
 unfoldable pub isFresh : State → Bool
 isFresh fresh = true
 isFresh running = false
@@ -286,10 +255,6 @@ pub data Step : Type 0 where
   abstain leave fail turn : ℕ → Step
   arrive notice : ℕ → ℕ → Step
 
--- what must hold, and the refusal number where it does not
-pub data Check : Type 0 where
-  needs : ℕ → Bool → Check
-
 -- the checks of each step, in document 01's order
 unfoldable pub checks : ℕ → Limit → Run → Step → List Check
 checks n lim s (start b v w) =
@@ -330,13 +295,8 @@ unfoldable pub done : Run → Answer
 done s = record { number = 0; run = s }
 
 -- the first check that fails refuses
-unfoldable pub judge : Run → List Check → Run → Answer
-judge s [] next = done next
-judge s (needs k true ∷ l) next = judge s l next
-judge s (needs k false ∷ l) next = refuse k s
-
 unfoldable pub step : ℕ → Limit → Run → Step → Answer
-step n lim s a = judge s (checks n lim s a) (after n s a)
+step n lim s a = judge (λ k. refuse k s) (checks n lim s a) (done (after n s a))
 
 unfoldable pub runFrom : ℕ → Limit → Run → List Step → Run
 runFrom n lim s [] = s

@@ -4,7 +4,7 @@ use mathlib.Core.Bool.{Bool, true, false, not}
 use mathlib.Core.List.{List}
 use Prim.Native.Nat.{ℕ, _-_}
 use borrow.Author.Tests.{eq-eqb, ne-eqb, not-true, not-false}
-use Rattle.published.specs.Rounds.{isBench}
+use Rattle.common.specs.Benches.{isBench}
 use Rattle.tables.specs.Steps.{Act, Acts, atBench, atBenches}
 use Rattle.rounds.proofs.Moving.{refuses}
 

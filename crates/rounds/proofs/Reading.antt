@@ -7,7 +7,7 @@ use native.Mathlib.Nat.{not-suc-le-zero}
 use native.Mathlib.Omega.{arith}
 use lib.Dec.{eqb}
 use borrow.Author.Tests.{eq-eqb, ne-eqb, not-true, not-false}
-use Rattle.published.specs.Rounds.{isBench}
+use Rattle.common.specs.Benches.{isBench}
 use Rattle.bench.specs.declared.Bench.{Bench}
 use Rattle.bench.proofs.Numbers.{bench-first}
 use Rattle.tables.specs.Rows.{rows, logs}

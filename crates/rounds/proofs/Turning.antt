@@ -5,7 +5,7 @@ use Prim.Native.Nat.{ℕ, _<_}
 use native.Mathlib.Omega.{arith}
 use lib.Dec.{eqb, ltb}
 use borrow.Author.Tests.{ltb-true, ne-eqb}
-use Rattle.published.proofs.Tests.{cond-ind}
+use Rattle.common.proofs.Tests.{cond-ind}
 use Rattle.kinds.specs.declared.SlotNo.{SlotNo}
 use Rattle.kinds.specs.declared.Message.{Message}
 use Rattle.bench.specs.declared.Bench.{Bench}

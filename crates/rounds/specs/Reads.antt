@@ -3,7 +3,7 @@ use mathlib.Core.Bool.{cond}
 use mathlib.Core.List.{List}
 use Prim.Native.Nat.{ℕ, _-_}
 use Rattle.published.specs.Rounds as published
-use Rattle.published.specs.Rounds.{isBench}
+use Rattle.common.specs.Benches.{isBench}
 use Rattle.tables.specs.Rows.{rows}
 use Rattle.tables.specs.Runs.{decisionOf}
 

@@ -9,8 +9,9 @@ use crate::rows::put_notice;
 use crate::rows::put_state;
 use crate::rows::state_at;
 use bench::has;
+use kinds::AnswerNo;
 
-pub(crate) fn fail_at(benches: &mut Benches, logs: &mut Logs, k: usize) -> u8
+pub(crate) fn fail_at(benches: &mut Benches, logs: &mut Logs, k: usize) -> AnswerNo
     requires { ⌜ k < 16 ⌝ }
     ensures { λ r. ⌜ Acts r (now (benches .exit)) (now (logs .exit)) (failAt 16 (now (benches .entry)) (now (logs .entry)) k) ⌝ }
 {
@@ -21,7 +22,7 @@ pub(crate) fn fail_at(benches: &mut Benches, logs: &mut Logs, k: usize) -> u8
     0
 }
 
-pub(crate) fn notice_at(benches: &mut Benches, logs: &mut Logs, k: usize, j: usize) -> u8
+pub(crate) fn notice_at(benches: &mut Benches, logs: &mut Logs, k: usize, j: usize) -> AnswerNo
     requires { ⌜ (k < 16) × (j < 16) ⌝ }
     ensures { λ r. ⌜ Acts r (now (benches .exit)) (now (logs .exit)) (noticeAt 16 (now (benches .entry)) (now (logs .entry)) k j) ⌝ }
 {

@@ -24,6 +24,7 @@ use crate::starts::start_at;
 use crate::takes::arrive_at;
 use crate::turns::turn_at;
 use bench::is_bench;
+use kinds::AnswerNo;
 use kinds::BenchNo;
 use kinds::SlotNo;
 use kinds::Step;
@@ -48,7 +49,7 @@ pub fn empty(benches: &mut Benches, logs: &mut Logs)
     *logs = [[0; 192]; 16];
 }
 
-pub fn step(benches: &mut Benches, logs: &mut Logs, s: Step) -> u8
+pub fn step(benches: &mut Benches, logs: &mut Logs, s: Step) -> AnswerNo
     ensures { λ r. ⌜ Acts r (now (benches .exit)) (now (logs .exit)) (tableStep 16 96 (now (benches .entry)) (now (logs .entry)) (stepOf s)) ⌝ }
 {
     match s {
@@ -69,7 +70,7 @@ pub fn start(
     bench: BenchNo,
     value: SlotNo,
     world: u32,
-) -> u8
+) -> AnswerNo
     ensures { λ r. ⌜ Acts r (now (benches .exit)) (now (logs .exit)) (tableStep 16 96 (now (benches .entry)) (now (logs .entry)) (published.start (bench .0) (value .0) world)) ⌝ }
 {
     if !is_bench(bench) {
@@ -79,7 +80,7 @@ pub fn start(
 }
 
 // Checks 1, 3.
-pub fn abstain(benches: &mut Benches, logs: &mut Logs, bench: BenchNo) -> u8
+pub fn abstain(benches: &mut Benches, logs: &mut Logs, bench: BenchNo) -> AnswerNo
     ensures { λ r. ⌜ Acts r (now (benches .exit)) (now (logs .exit)) (tableStep 16 96 (now (benches .entry)) (now (logs .entry)) (published.abstain (bench .0))) ⌝ }
 {
     if !is_bench(bench) {
@@ -89,7 +90,7 @@ pub fn abstain(benches: &mut Benches, logs: &mut Logs, bench: BenchNo) -> u8
 }
 
 // Checks 1, 3.
-pub fn leave(benches: &mut Benches, logs: &mut Logs, bench: BenchNo) -> u8
+pub fn leave(benches: &mut Benches, logs: &mut Logs, bench: BenchNo) -> AnswerNo
     ensures { λ r. ⌜ Acts r (now (benches .exit)) (now (logs .exit)) (tableStep 16 96 (now (benches .entry)) (now (logs .entry)) (published.leave (bench .0))) ⌝ }
 {
     if !is_bench(bench) {
@@ -99,7 +100,7 @@ pub fn leave(benches: &mut Benches, logs: &mut Logs, bench: BenchNo) -> u8
 }
 
 // Checks 1, 3.
-pub fn fail(benches: &mut Benches, logs: &mut Logs, bench: BenchNo) -> u8
+pub fn fail(benches: &mut Benches, logs: &mut Logs, bench: BenchNo) -> AnswerNo
     ensures { λ r. ⌜ Acts r (now (benches .exit)) (now (logs .exit)) (tableStep 16 96 (now (benches .entry)) (now (logs .entry)) (published.fail (bench .0))) ⌝ }
 {
     if !is_bench(bench) {
@@ -109,7 +110,7 @@ pub fn fail(benches: &mut Benches, logs: &mut Logs, bench: BenchNo) -> u8
 }
 
 // Checks 1, 3, 11, 12.
-pub fn turn(benches: &mut Benches, logs: &mut Logs, bench: BenchNo) -> u8
+pub fn turn(benches: &mut Benches, logs: &mut Logs, bench: BenchNo) -> AnswerNo
     ensures { λ r. ⌜ Acts r (now (benches .exit)) (now (logs .exit)) (tableStep 16 96 (now (benches .entry)) (now (logs .entry)) (published.turn (bench .0))) ⌝ }
 {
     if !is_bench(bench) {
@@ -119,7 +120,7 @@ pub fn turn(benches: &mut Benches, logs: &mut Logs, bench: BenchNo) -> u8
 }
 
 // Checks 1, 2, 3, 9, 8.
-pub fn arrive(benches: &mut Benches, logs: &mut Logs, bench: BenchNo, from: BenchNo) -> u8
+pub fn arrive(benches: &mut Benches, logs: &mut Logs, bench: BenchNo, from: BenchNo) -> AnswerNo
     ensures { λ r. ⌜ Acts r (now (benches .exit)) (now (logs .exit)) (tableStep 16 96 (now (benches .entry)) (now (logs .entry)) (published.arrive (bench .0) (from .0))) ⌝ }
 {
     if !is_bench(bench) {
@@ -135,7 +136,7 @@ pub fn arrive(benches: &mut Benches, logs: &mut Logs, bench: BenchNo, from: Benc
 }
 
 // Checks 1, 2, 3, 10, 9.
-pub fn notice(benches: &mut Benches, logs: &mut Logs, bench: BenchNo, from: BenchNo) -> u8
+pub fn notice(benches: &mut Benches, logs: &mut Logs, bench: BenchNo, from: BenchNo) -> AnswerNo
     ensures { λ r. ⌜ Acts r (now (benches .exit)) (now (logs .exit)) (tableStep 16 96 (now (benches .entry)) (now (logs .entry)) (published.notice (bench .0) (from .0))) ⌝ }
 {
     if !is_bench(bench) {

@@ -8,8 +8,9 @@ use crate::rows::out_at;
 use crate::rows::put_state;
 use crate::rows::state_at;
 use crate::sends::part;
+use kinds::AnswerNo;
 
-pub(crate) fn abstain_at(benches: &mut Benches, logs: &mut Logs, k: usize) -> u8
+pub(crate) fn abstain_at(benches: &mut Benches, logs: &mut Logs, k: usize) -> AnswerNo
     requires { ⌜ k < 16 ⌝ }
     ensures { λ r. ⌜ Acts r (now (benches .exit)) (now (logs .exit)) (abstainAt 16 96 (now (benches .entry)) (now (logs .entry)) k) ⌝ }
 {
@@ -21,7 +22,7 @@ pub(crate) fn abstain_at(benches: &mut Benches, logs: &mut Logs, k: usize) -> u8
 }
 
 // OUT is sent once: a bench that has decided or abstained only changes its state.
-pub(crate) fn leave_at(benches: &mut Benches, logs: &mut Logs, k: usize) -> u8
+pub(crate) fn leave_at(benches: &mut Benches, logs: &mut Logs, k: usize) -> AnswerNo
     requires { ⌜ k < 16 ⌝ }
     ensures { λ r. ⌜ Acts r (now (benches .exit)) (now (logs .exit)) (leaveAt 16 96 (now (benches .entry)) (now (logs .entry)) k) ⌝ }
 {

@@ -6,7 +6,7 @@ ghost use mathlib.Core.Path.{_≡_};
 ghost use mathlib.Core.Bool.{true};
 ghost use Prim.Native.Nat.{_-_, _<_};
 ghost use lib.ListN.{length, getD, set};
-ghost use Rattle.published.specs.Rounds.{isBench};
+ghost use Rattle.common.specs.Benches.{isBench};
 ghost use Rattle.bench.specs.Changes.{takeOf, takenOf, outOf, noticeOf, inState, sentTo, sentOut};
 ghost use Rattle.tables.specs.Rows.{readRow, rowOf, rows};
 ghost use Rattle.rounds.specs.Sending.{Keeps, ownAt};

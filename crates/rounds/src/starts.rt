@@ -9,6 +9,7 @@ use crate::rows::sent_at;
 use crate::rows::state_at;
 use crate::sends::begin;
 use bench::has;
+use kinds::AnswerNo;
 use kinds::SlotNo;
 
 // The bench at k starts.
@@ -18,7 +19,7 @@ pub(crate) fn start_at(
     k: usize,
     value: SlotNo,
     world: u32,
-) -> u8
+) -> AnswerNo
     requires { ⌜ k < 16 ⌝ }
     ensures { λ r. ⌜ Acts r (now (benches .exit)) (now (logs .exit)) (startAt 16 96 (now (benches .entry)) (now (logs .entry)) (value .0) world k) ⌝ }
 {

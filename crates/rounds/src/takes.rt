@@ -14,9 +14,10 @@ use crate::rows::state_at;
 use crate::rows::taken_at;
 use bench::Waiting;
 use bench::has;
+use kinds::AnswerNo;
 
 // The bench at k takes the next message of the line from the bench at j: six words are read, and one is written.
-pub(crate) fn arrive_at(benches: &mut Benches, logs: &mut Logs, k: usize, j: usize) -> u8
+pub(crate) fn arrive_at(benches: &mut Benches, logs: &mut Logs, k: usize, j: usize) -> AnswerNo
     requires { ⌜ (k < 16) × (j < 16) ⌝ }
     ensures { λ r. ⌜ Acts r (now (benches .exit)) (now (logs .exit)) (arriveAt 16 96 (now (benches .entry)) (now (logs .entry)) k j) ⌝ }
 {

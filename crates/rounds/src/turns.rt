@@ -9,9 +9,10 @@ use crate::rows::load;
 use crate::rows::state_at;
 use crate::sends::send;
 use bench::Answer;
+use kinds::AnswerNo;
 
 // The state is looked at first, since a bench that is not running needs no more of its row.
-pub(crate) fn turn_at(benches: &mut Benches, logs: &mut Logs, k: usize) -> u8
+pub(crate) fn turn_at(benches: &mut Benches, logs: &mut Logs, k: usize) -> AnswerNo
     requires { ⌜ k < 16 ⌝ }
     ensures { λ r. ⌜ Acts r (now (benches .exit)) (now (logs .exit)) (turnAt 16 96 (now (benches .entry)) (now (logs .entry)) k) ⌝ }
 {
@@ -21,7 +22,7 @@ pub(crate) fn turn_at(benches: &mut Benches, logs: &mut Logs, k: usize) -> u8
     whole_turn_at(&mut *benches, &mut *logs, k)
 }
 
-fn whole_turn_at(benches: &mut Benches, logs: &mut Logs, k: usize) -> u8
+fn whole_turn_at(benches: &mut Benches, logs: &mut Logs, k: usize) -> AnswerNo
     requires { ⌜ k < 16 ⌝ }
     ensures { λ r. ⌜ Acts r (now (benches .exit)) (now (logs .exit)) (turnAt 16 96 (now (benches .entry)) (now (logs .entry)) k) ⌝ }
 {

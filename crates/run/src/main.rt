@@ -2,8 +2,8 @@
 // refusal alone. Where the output is closed it ends, since there is nobody left to tell.
 use libc::STDIN_FILENO;
 use libc::STDOUT_FILENO;
-use report::Reported;
-use report::report;
+use run_report::Reported;
+use run_report::report;
 
 // The input has room for one byte more than a text may have, to see that it is too long, and the room for the longest report.
 fn main() {

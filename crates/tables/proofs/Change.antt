@@ -10,9 +10,10 @@ use lib.ListN.{getD, length, set, length-set}
 use lib.Seq.{getD-set-same, getD-set-other, set-getD}
 use borrow.Author.Tests.{eqb-true, eqb-false}
 use Rattle.published.specs.Rounds as published
-use Rattle.published.specs.Rounds.{put, done, refuse}
-use Rattle.published.proofs.Tests.{split}
-use Rattle.published.proofs.Updates.{put-ind, put-same, put-other, put-self}
+use Rattle.common.specs.Updates.{put}
+use Rattle.published.specs.Rounds.{done, refuse}
+use Rattle.common.proofs.Tests.{split}
+use Rattle.common.proofs.Updates.{put-ind, put-same, put-other, put-self}
 use Rattle.bench.specs.declared.Bench.{Bench}
 use Rattle.bench.specs.Sets.{has}
 use Rattle.tables.specs.Rows.{rowOf, rows, logs}

@@ -8,9 +8,11 @@ use native.Mathlib.Omega.{arith}
 use lib.Dec.{eqb, leb, ltb}
 use lib.ListN.{drop}
 use borrow.Author.Tests.{eqb-false, ltb-true, ltb-false, le-leb, lt-leb}
-use Rattle.published.specs.Rounds.{Run, Step, Check, needs, Answer, checks, after, judge, done, step, upTo, isBench}
-use Rattle.published.proofs.Tests.{both, split}
-use Rattle.published.proofs.Moves.{bench-in}
+use Rattle.published.specs.Rounds.{Run, Step, Answer, checks, after, done, step, upTo, refuse}
+use Rattle.common.specs.Checks.{Check, needs, judge}
+use Rattle.common.specs.Benches.{isBench}
+use Rattle.common.proofs.Tests.{both, split}
+use Rattle.common.proofs.Benches.{bench-in}
 use Rattle.tables.specs.Steps.{Act, refused, atBench, atBenches}
 use Rattle.tables.specs.Runs.{runOf}
 use Rattle.tables.specs.Sound.{Sound}
@@ -31,28 +33,32 @@ module _ (N R : ℕ) (t l : List (List ℕ)) (s : Sound N R t l) where
   abbrev run : Run
   run = runOf N R t l
 
+  -- the published refusal
+  abbrev no : ℕ → Answer
+  no k = refuse k run
+
   -- refused where the tables' test fails
-  pub asks : (n : ℕ) (c d : Bool) (e : Act) (more : List Check) (next : Run) → d ≡ c → (c ≡ true → Links N R e (judge run more next))
-      → Links N R (cond c e (refused n t l)) (judge run (needs n d ∷ more) next)
+  pub asks : (n : ℕ) (c d : Bool) (e : Act) (more : List Check) (next : Answer) → d ≡ c → (c ≡ true → Links N R e (judge no more next))
+      → Links N R (cond c e (refused n t l)) (judge no (needs n d ∷ more) next)
   unfolding judge
   asks n true d e more next p f = rw p (f refl)
   asks n false d e more next p f = rw p (refused-links N R t l s n)
 
   -- refused where it holds
-  pub bars : (n : ℕ) (c d : Bool) (e : Act) (more : List Check) (next : Run) → d ≡ not c → (c ≡ false → Links N R e (judge run more next))
-      → Links N R (cond c (refused n t l) e) (judge run (needs n d ∷ more) next)
+  pub bars : (n : ℕ) (c d : Bool) (e : Act) (more : List Check) (next : Answer) → d ≡ not c → (c ≡ false → Links N R e (judge no more next))
+      → Links N R (cond c (refused n t l) e) (judge no (needs n d ∷ more) next)
   unfolding judge
   bars n true d e more next p f = rw p (refused-links N R t l s n)
   bars n false d e more next p f = rw p (f refl)
 
   -- no check is left
-  pub all-hold : (e : Act) (next : Run) → Links N R e (done next) → Links N R e (judge run [] next)
+  pub all-hold : (e : Act) (next : Answer) → Links N R e next → Links N R e (judge no [] next)
   unfolding judge
   all-hold e next k = k
 
   -- a step behind its first n checks
   abbrev pub behind : ℕ → Step → Answer
-  behind n a = judge run (drop n (checks N (upTo R) run a)) (after N run a)
+  behind n a = judge no (drop n (checks N (upTo R) run a)) (done (after N run a))
 
   -- a step of one bench, by its place
   pub at-bench : (a : ℕ → Step) (f : ℕ → Act)

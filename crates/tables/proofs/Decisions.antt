@@ -5,7 +5,7 @@ use mathlib.Core.List.{List, [], _∷_}
 use Prim.Native.Nat.{ℕ, suc, _≤_}
 use borrow.Author.Tests.{eq-eqb}
 use Rattle.published.specs.Rounds.{Run, Step, start, step, upTo, newRun, newBench, chosen, find}
-use Rattle.published.proofs.Tests.{clash}
+use Rattle.common.proofs.Tests.{clash}
 use Rattle.published.proofs.Invariant.{M}
 use Rattle.published.proofs.Reached.{Reached, reached-new, reached-step}
 use Rattle.published.proofs.Records.{Proposal, earlier, now, proposal-from}

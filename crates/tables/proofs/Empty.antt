@@ -8,7 +8,7 @@ use lib.Dec.{eqb, ltb}
 use lib.ListN.{replicate, length-replicate, getD-replicate, List·getD-eq-default}
 use borrow.Author.Tests.{ltb-true, ltb-false}
 use Rattle.published.specs.Rounds.{newRun, newBench}
-use Rattle.published.proofs.Tests.{split, clash}
+use Rattle.common.proofs.Tests.{split, clash}
 use Rattle.bench.specs.declared.Bench.{Bench}
 use Rattle.bench.specs.Sets.{has}
 use Rattle.tables.specs.Rows.{ofRow, rows, logs}

@@ -8,7 +8,7 @@ use lib.Dec.{eqb, ltb}
 use lib.ListN.{getD, length, drop, length-append}
 use borrow.Author.Tests.{ltb-true, ltb-false, lt-ltb, le-ltb, eqb-true, eqb-false, eq-eqb, ne-eqb}
 use Rattle.published.specs.Rounds.{Message, Round, Out, Found, absent, found, find, hasOut}
-use Rattle.published.proofs.Tests.{split}
+use Rattle.common.proofs.Tests.{split}
 use Rattle.published.proofs.Messages.{find-found, find-absent, find-out, hasOut-append, drop-length}
 use Rattle.tables.specs.Runs.{roundsOf, lineOf}
 

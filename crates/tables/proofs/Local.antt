@@ -6,7 +6,7 @@ use native.Mathlib.Omega.{arith}
 use lib.Dec.{ltb}
 use lib.ListN.{getD}
 use borrow.Author.Tests.{leb-true, ltb-false}
-use Rattle.published.proofs.Tests.{split}
+use Rattle.common.proofs.Tests.{split}
 use Rattle.bench.specs.declared.Bench.{Bench}
 use Rattle.tables.specs.Rows.{logs}
 use Rattle.tables.specs.Lines.{hears, withMessage, heardTo, heardOf}

@@ -6,8 +6,9 @@ use Prim.Native.Nat.{ℕ, zero, suc, _^_, _≤_, _<_}
 use native.Mathlib.Omega.{arith}
 use lib.Bits.{bitOr}
 use Rattle.published.specs.Rounds as published
-use Rattle.published.specs.Rounds.{put, done, noticing}
-use Rattle.published.proofs.Updates.{put-ind, put-other}
+use Rattle.common.specs.Updates.{put}
+use Rattle.published.specs.Rounds.{done, noticing}
+use Rattle.common.proofs.Updates.{put-ind, put-other}
 use Rattle.bench.specs.declared.Bench.{Bench}
 use Rattle.bench.specs.Sets.{has}
 use Rattle.bench.specs.Changes.{noticeOf, inState}

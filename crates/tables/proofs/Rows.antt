@@ -5,8 +5,8 @@ use Prim.Native.Nat.{ℕ, zero, suc, _+_, _<_}
 use native.Mathlib.Omega.{arith}
 use lib.ListN.{length, getD, drop, set, replicate, drop-of-length-le}
 use lib.Seq.{drop-cons, getD-set-same, getD-set-other, set-set}
-use Rattle.published.specs.Rounds.{put}
-use Rattle.published.proofs.Updates.{put-ind}
+use Rattle.common.specs.Updates.{put}
+use Rattle.common.proofs.Updates.{put-ind}
 use Rattle.bench.specs.declared.Bench.{Bench}
 use Rattle.tables.specs.Rows.{from, ofRow, rowOf, rows, logs}
 use Rattle.tables.specs.Steps.{putAt}

@@ -11,9 +11,10 @@ use lib.ListN.{getD, length, length-set, length-replicate}
 use lib.Seq.{getD-set-same, getD-set-other}
 use lib.Bits.{bitAnd, and-le-l}
 use borrow.Author.Tests.{ltb-true, ltb-false, lt-ltb, le-ltb, eqb-true, eqb-false, eq-eqb, ne-eqb}
-use Rattle.published.specs.Rounds.{View, Found, absent, found, find, viewOf, see, got, agrees, isAwaited, isHeard, decidesOn, settledOn, heardOn, lesser, leastOn, member, everyIn, within, worldOf}
-use Rattle.published.proofs.Tests.{split, clash, cond-ind}
-use Rattle.published.proofs.Worlds.{member-worldOf, worldOf-lt}
+use Rattle.published.specs.Rounds.{View, Found, absent, found, find, viewOf, see, got, agrees, isAwaited, isHeard, decidesOn, settledOn, heardOn, lesser, leastOn}
+use Rattle.common.specs.Worlds.{member, everyIn, within, worldOf}
+use Rattle.common.proofs.Tests.{split, clash, cond-ind}
+use Rattle.common.proofs.Worlds.{member-worldOf, worldOf-lt}
 use Rattle.bench.specs.declared.Bench.{Bench}
 use Rattle.bench.specs.declared.Heard.{Heard}
 use Rattle.bench.specs.Sets.{has}

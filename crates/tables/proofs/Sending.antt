@@ -9,9 +9,10 @@ use lib.ListN.{getD, length, set, length-set}
 use lib.Seq.{getD-set-same, getD-set-other}
 use borrow.Author.Tests.{eqb-true, eqb-false}
 use Rattle.published.specs.Rounds as published
-use Rattle.published.specs.Rounds.{put, done, entering, sending}
-use Rattle.published.proofs.Tests.{split, clash}
-use Rattle.published.proofs.Updates.{put-same, put-other}
+use Rattle.common.specs.Updates.{put}
+use Rattle.published.specs.Rounds.{done, entering, sending}
+use Rattle.common.proofs.Tests.{split, clash}
+use Rattle.common.proofs.Updates.{put-same, put-other}
 use Rattle.kinds.specs.declared.Message.the-variants.{Round, Out}
 use Rattle.bench.specs.declared.Bench.{Bench}
 use Rattle.bench.specs.Changes.{takenOf, outOf, takeOf, inRound, sentTo, sentOut}

@@ -8,7 +8,8 @@ use native.Mathlib.Omega.{arith}
 use lib.Dec.{eqb, ltb}
 use lib.ListN.{getD}
 use borrow.Author.Tests.{ne-eqb, lt-ltb}
-use Rattle.published.specs.Rounds.{hasAll, inAll, hasStarted, startedWith, isGone, member, find, found, absent}
+use Rattle.published.specs.Rounds.{hasAll, inAll, hasStarted, startedWith, isGone, find, found, absent}
+use Rattle.common.specs.Worlds.{member}
 use Rattle.bench.specs.declared.Bench.{Bench}
 use Rattle.bench.specs.Sets.{has}
 use Rattle.tables.specs.Rows.{ofRow, rows, logs}

@@ -7,8 +7,10 @@ use native.Mathlib.Omega.{arith}
 use lib.Dec.{eqb, ltb}
 use borrow.Author.Tests.{eqb-true, ltb-true}
 use Rattle.published.specs.Rounds as published
-use Rattle.published.specs.Rounds.{Run, Step, start, abstain, leave, fail, turn, arrive, notice, State, isFresh, isRunning, isGone, isFailed, hasOut, member, put, done, parting, leaving, checks, after, step, upTo}
-use Rattle.published.proofs.Tests.{both, split}
+use Rattle.published.specs.Rounds.{Run, Step, start, abstain, leave, fail, turn, arrive, notice, State, isFresh, isRunning, isGone, isFailed, hasOut, done, parting, leaving, checks, after, step, upTo}
+use Rattle.common.specs.Worlds.{member}
+use Rattle.common.specs.Updates.{put}
+use Rattle.common.proofs.Tests.{both, split}
 use Rattle.kinds.specs.declared.Message.the-variants.{Out}
 use Rattle.bench.specs.Sets.{has}
 use Rattle.bench.specs.Changes.{inState}

@@ -12,9 +12,11 @@ use lib.Seq.{getD-set-same, getD-set-other}
 use lib.Bits.{bitOr}
 use borrow.Author.Tests.{eqb-true, eqb-false, ne-eqb, ltb-true, ltb-false, lt-ltb}
 use Rattle.published.specs.Rounds as published
-use Rattle.published.specs.Rounds.{Message, Out, Run, put, done, needs, judge, taking, takingFirst, waiting}
-use Rattle.published.proofs.Tests.{split, clash}
-use Rattle.published.proofs.Updates.{put-ind, put-other}
+use Rattle.published.specs.Rounds.{Message, Out, Run, done, taking, takingFirst, waiting}
+use Rattle.common.specs.Updates.{put}
+use Rattle.common.specs.Checks.{needs, judge}
+use Rattle.common.proofs.Tests.{split, clash}
+use Rattle.common.proofs.Updates.{put-ind, put-other}
 use Rattle.bench.specs.declared.Bench.{Bench}
 use Rattle.bench.specs.Sets.{has}
 use Rattle.bench.specs.Changes.{takenOf, outOf, takeOf}
@@ -167,7 +169,8 @@ module _ (N R : ℕ) (t l : List (List ℕ)) (s : Sound N R t l) (k j : ℕ) (hk
 
   -- check 8 and what follows it
   pub takes-next : Links N R (takeNext N t l k j (nextOn N R t l k j))
-      (judge run (needs 8 (published.some (waiting run (suc k) (suc j))) ∷ []) (put run (suc k) (takingFirst (suc j) (waiting run (suc k) (suc j)) (run (suc k)))))
+      (judge (λ m. published.refuse m run) (needs 8 (published.some (waiting run (suc k) (suc j))) ∷ [])
+      (done (put run (suc k) (takingFirst (suc j) (waiting run (suc k) (suc j)) (run (suc k))))))
   unfolding nextOn waitingOf takeNext takeOf takingFirst judge published.some
   takes-next = split (ltb n (c .sent))
       (λ e. let h = ltb-true n (c .sent) e in split (has (b .outs) j)

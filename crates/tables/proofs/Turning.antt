@@ -11,8 +11,10 @@ use lib.ListN.{getD}
 use lib.Bits.{bitAnd, and-le-l}
 use borrow.Author.Tests.{eqb-true, ltb-true, lt-ltb, leb-true}
 use Rattle.published.specs.Rounds as published
-use Rattle.published.specs.Rounds.{see, decides, settled, nextWorld, nextValue, put, done, Check, needs, judge, checks, after, turn, turned, deciding, advancing, entering, parting, isRunning, Run, upTo, allows}
-use Rattle.published.proofs.Tests.{split}
+use Rattle.published.specs.Rounds.{see, decides, settled, nextWorld, nextValue, done, checks, after, turn, turned, deciding, advancing, entering, parting, isRunning, Run, upTo, allows, Answer}
+use Rattle.common.specs.Updates.{put}
+use Rattle.common.specs.Checks.{Check, needs, judge}
+use Rattle.common.proofs.Tests.{split}
 use Rattle.bench.specs.declared.Bench.{Bench}
 use Rattle.bench.specs.declared.Heard.{Heard}
 use Rattle.bench.specs.declared.Turned.{Turned}
@@ -44,16 +46,20 @@ module _ (N R : ℕ) (t l : List (List ℕ)) (s : Sound N R t l) (k : ℕ) (hk :
   abbrev x : published.Bench
   x = run (suc k)
 
+  -- the published refusal
+  abbrev no : ℕ → published.Answer
+  no m = published.refuse m run
+
   -- ---- a check of turn beside the published one
 
-  asks-turn : (n : ℕ) (c d : Bool) (p : Turned) (more : List Check) (next : Run) → d ≡ c → (c ≡ true → Links N R (turnOn N R t l k p) (judge run more next))
-      → Links N R (turnOn N R t l k (cond c p (refuses b n))) (judge run (needs n d ∷ more) next)
+  asks-turn : (n : ℕ) (c d : Bool) (p : Turned) (more : List Check) (next : Answer) → d ≡ c → (c ≡ true → Links N R (turnOn N R t l k p) (judge no more next))
+      → Links N R (turnOn N R t l k (cond c p (refuses b n))) (judge no (needs n d ∷ more) next)
   unfolding turnOn turnBy
   asks-turn n true d p more next e f = asks N R t l s n true d _ more next e f
   asks-turn n false d p more next e f = asks N R t l s n false d _ more next e f
 
-  bars-turn : (n : ℕ) (c d : Bool) (p : Turned) (more : List Check) (next : Run) → d ≡ not c → (c ≡ false → Links N R (turnOn N R t l k p) (judge run more next))
-      → Links N R (turnOn N R t l k (cond c (refuses b n) p)) (judge run (needs n d ∷ more) next)
+  bars-turn : (n : ℕ) (c d : Bool) (p : Turned) (more : List Check) (next : Answer) → d ≡ not c → (c ≡ false → Links N R (turnOn N R t l k p) (judge no more next))
+      → Links N R (turnOn N R t l k (cond c (refuses b n) p)) (judge no (needs n d ∷ more) next)
   unfolding turnOn turnBy
   bars-turn n true d p more next e f = bars N R t l s n true d _ more next e f
   bars-turn n false d p more next e f = bars N R t l s n false d _ more next e f
@@ -122,11 +128,11 @@ module _ (N R : ℕ) (t l : List (List ℕ)) (s : Sound N R t l) (k : ℕ) (hk :
     room-is = refl
 
     limited : Links N R (turnOn N R t l k (cond (ltb (b .round .0) R) (goOnOf N b h) (refuses b 12)))
-        (judge run (needs 12 (allows (upTo R) (suc (x .round))) ∷ []) (put run (suc k) (advancing N (suc k) x)))
+        (judge no (needs 12 (allows (upTo R) (suc (x .round))) ∷ []) (done (put run (suc k) (advancing N (suc k) x))))
     limited = asks-turn 12 (ltb (b .round .0) R) _ _ _ _ room-is λ e₁₂. all-hold N R t l s _ _ (goes-on (ltb-true (b .round .0) R e₁₂))
 
     ends : Links N R (turnOn N R t l k (cond (forbidsOf N b h) (cond (ltb (b .round .0) R) (goOnOf N b h) (refuses b 12)) (concludes b)))
-        (judge run (needs 12 (decides N (suc k) x || allows (upTo R) (suc (x .round))) ∷ []) (put run (suc k) (turned N (suc k) x)))
+        (judge no (needs 12 (decides N (suc k) x || allows (upTo R) (suc (x .round))) ∷ []) (done (put run (suc k) (turned N (suc k) x))))
     unfolding judge turned
     ends = split (forbidsOf N b h)
         (λ f. let d : decides N (suc k) x ≡ false = decides-eq ∙ rw f refl in rw (f, d) limited)

@@ -5,7 +5,8 @@ use Prim.Native.Nat.{ℕ, _+_, _-_, _^_}
 use mathlib.Core.List.{List, [], _∷_}
 use lib.Dec.{eqb, ltb}
 use lib.ListN.{getD, set, replicate}
-use Rattle.published.specs.Rounds.{Step, start, abstain, leave, fail, turn, arrive, notice, isBench}
+use Rattle.published.specs.Rounds.{Step, start, abstain, leave, fail, turn, arrive, notice}
+use Rattle.common.specs.Benches.{isBench}
 use Rattle.kinds.specs.declared.Message.{Message}
 use Rattle.kinds.specs.declared.Message.the-variants.{Round, Out}
 use Rattle.bench.specs.declared.Bench.{Bench}

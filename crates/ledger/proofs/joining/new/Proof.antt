@@ -1,6 +1,6 @@
 -- `ledger::joining::new` meets its contract: nobody sits, and nothing is held.
 use mathlib.Core.Path.{refl}
-use Rattle.ledger.specs.Book.{newBook}
+use Rattle.book.specs.Book.{newBook}
 use Rattle.ledger.specs.Seen.{bookOf, heldIn}
 use Rattle.ledger.proofs.Seating.{rows-new}
 use Rattle.ledger.proofs.joining.new.Statement.{statement}

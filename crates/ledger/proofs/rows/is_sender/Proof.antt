@@ -1,6 +1,6 @@
 -- `ledger::rows::is_sender` meets its contract.
 use borrow.Author.Tests.{le-leb, lt-leb}
-use Rattle.published.specs.Rounds.{isBench}
+use Rattle.common.specs.Benches.{isBench}
 use Rattle.ledger.proofs.rows.is_sender.Statement.{statement}
 use Rattle.ledger.proofs.rows.is_sender.Tie as tie
 

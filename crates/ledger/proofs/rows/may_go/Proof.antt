@@ -2,7 +2,7 @@
 use native.Mathlib.Omega.{arith}
 use Prim.Native.Nat.{_-_}
 use mathlib.Core.Path.{refl}
-use Rattle.published.specs.Rounds.{every}
+use Rattle.common.specs.Benches.{every}
 use Rattle.ledger.proofs.Going.{Going, going-next, held-up, all-go}
 use borrow.Author.Needs.{needs}
 use Rattle.ledger.proofs.rows.may_go.Statement.{statement}

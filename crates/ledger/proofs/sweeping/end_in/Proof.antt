@@ -3,7 +3,7 @@ use native.Mathlib.Omega.{arith}
 use Prim.Native.Nat.{_<_}
 use mathlib.Core.Path.{refl, sym, _∙_}
 use lib.ListN.{length, length-map}
-use Rattle.ledger.specs.Book.{only}
+use Rattle.book.specs.Book.{only}
 use Rattle.ledger.specs.Seen.{rowsOf, heldIn, bookOf}
 use Rattle.ledger.proofs.Answered.{tells-refused, knows, end-done}
 use borrow.Author.Needs.{needs}

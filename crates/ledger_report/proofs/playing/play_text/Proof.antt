@@ -4,7 +4,7 @@ use native.Mathlib.Omega.{arith}
 use mathlib.Core.Path.{sym}
 use lib.ListN.{length}
 use lib.Seq.{length-take-le}
-use Rattle.runtext.proofs.Stores.{stored-length}
+use Rattle.spelling.proofs.Stores.{stored-length}
 use Rattle.ledger_report.proofs.Played.{end-above, end-within, one-at-most, count-inside, front-few, Playing, playing-none, malformed-room, malformed-more, does-room, does-more, end-room, playing-all, held-few}
 use borrow.Author.Needs.{needs}
 use Rattle.ledger_report.proofs.playing.play_text.Statement.{statement}

@@ -1,5 +1,5 @@
 use Prim.Native.Nat.{_-_}
-use Rattle.runtext.proofs.Stores.{stored-length}
+use Rattle.spelling.proofs.Stores.{stored-length}
 use Rattle.ledger.specs.Seen.{rowsOf}
 use Rattle.ledger_report.proofs.SenderLines.{Listed, listed-none, listed-room, listed-more, listed-all}
 use borrow.Author.Needs.{needs}

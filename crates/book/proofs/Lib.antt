@@ -1,0 +1,8 @@
+pub mod Outcomes
+pub mod Numbers
+pub mod Only
+pub mod Kept
+pub mod Tags
+pub mod Accounts
+pub mod Endings
+pub mod Joint

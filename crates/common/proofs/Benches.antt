@@ -1,0 +1,41 @@
+-- Laws of the numbers 1 to n, and of tests of each of them. Assumes nothing.
+use mathlib.Core.Path.{_≡_, refl}
+use Prim.Native.Nat.{ℕ, zero, suc, _+_, _≤_}
+use mathlib.Core.Bool.{Bool, true, _&&_}
+use native.Mathlib.Numerals.{add-one}
+use native.Mathlib.Omega.{arith}
+use lib.Dec.{eqb, leb}
+use borrow.Author.Tests.{eqb-true, eqb-false, leb-true, le-leb}
+use Rattle.common.specs.Benches.{isBench, every}
+use Rattle.common.proofs.Tests.{both, split}
+
+-- bench i is one of the benches 1 to n
+abbrev pub In : ℕ → ℕ → Type 0
+In n i = (1 ≤ i) × (i ≤ n)
+
+pub bench-in : (n b : ℕ) → isBench n b ≡ true → In n b
+unfolding isBench
+bench-in n b e = let p = both (leb 1 b) (leb b n) e in (leb-true 1 b (p .0), leb-true b n (p .1))
+
+pub in-bench : (n b : ℕ) → In n b → isBench n b ≡ true
+unfolding isBench
+in-bench n b h = rw (le-leb 1 b (h .0), le-leb b n (h .1)) refl
+
+-- ---- every bench
+
+pub every-get : (n : ℕ) (p : ℕ → Bool) (i : ℕ) → every n p ≡ true → In n i → p i ≡ true
+unfolding every
+every-get zero p i e h = absurd (omega arith)
+every-get (suc n) p i e h = split (eqb i (suc n))
+    (λ q. rw (eqb-true i (suc n) q) (both (every n p) (p (suc n)) e .1))
+    (λ q. let ne = eqb-false i (suc n) q in every-get n p i (both (every n p) (p (suc n)) e .0) (omega arith))
+
+pub every-make : (n : ℕ) (p : ℕ → Bool) → ((i : ℕ) → In n i → p i ≡ true) → every n p ≡ true
+unfolding every
+every-make zero p f = refl
+every-make (suc n) p f = let a = every-make n p (λ i h. f i (omega arith)) in let b = f (suc n) (omega arith) in cc
+
+-- one more bench, as a loop counts
+pub every-next : (i : ℕ) (p : ℕ → Bool) → every (i + 1) p ≡ (every i p && p (i + 1))
+unfolding every
+every-next i p = rw add-one

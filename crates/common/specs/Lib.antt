@@ -1,0 +1,4 @@
+pub mod Benches
+pub mod Worlds
+pub mod Updates
+pub mod Checks

@@ -1,0 +1,53 @@
+-- The numbers by which a step can be refused: those that document 01 lists for it, in its order. Assumes nothing.
+use mathlib.Core.Path.{_≡_, refl}
+use Prim.Native.Nat.{ℕ, _≤_}
+use mathlib.Core.Bool.{Bool, true, _&&_}
+use mathlib.Core.List.{List, [], _∷_}
+use lib.Dec.{leb}
+use borrow.Author.Tests.{leb-true}
+use Rattle.common.proofs.Tests.{both}
+use Rattle.common.proofs.Checks.{Fails, OneOf, numbers, fails-among, all, among}
+use Rattle.published.specs.Rounds.{Run, Step, start, abstain, leave, fail, turn, arrive, notice, Limit, checks}
+
+-- document 01's order of checks: the numbers by which a step can be refused
+unfoldable pub refusals : Step → List ℕ
+refusals (start b v w) = 1 ∷ 3 ∷ 4 ∷ 5 ∷ 6 ∷ 7 ∷ []
+refusals (abstain b) = 1 ∷ 3 ∷ []
+refusals (leave b) = 1 ∷ 3 ∷ []
+refusals (fail b) = 1 ∷ 3 ∷ []
+refusals (turn b) = 1 ∷ 3 ∷ 11 ∷ 12 ∷ []
+refusals (arrive b f) = 1 ∷ 2 ∷ 3 ∷ 9 ∷ 8 ∷ []
+refusals (notice b f) = 1 ∷ 2 ∷ 3 ∷ 10 ∷ 9 ∷ []
+
+numbers-are : (n : ℕ) (lim : Limit) (s : Run) (a : Step) → numbers (checks n lim s a) ≡ refusals a
+unfolding numbers checks refusals
+numbers-are n lim s (start b v w) = refl
+numbers-are n lim s (abstain b) = refl
+numbers-are n lim s (leave b) = refl
+numbers-are n lim s (fail b) = refl
+numbers-are n lim s (turn b) = refl
+numbers-are n lim s (arrive b f) = refl
+numbers-are n lim s (notice b f) = refl
+
+pub refusal-among : (n : ℕ) (lim : Limit) (s : Run) (a : Step) (k : ℕ) → Fails (checks n lim s a) k → OneOf k (refusals a)
+refusal-among n lim s a k f = let o = fails-among (checks n lim s a) k f in rw (numbers-are n lim s a) at o
+
+small : ℕ → Bool
+small k = leb 1 k && leb k 12
+
+all-small : (a : Step) → all small (refusals a) ≡ true
+unfolding all small refusals
+all-small (start b v w) = refl
+all-small (abstain b) = refl
+all-small (leave b) = refl
+all-small (fail b) = refl
+all-small (turn b) = refl
+all-small (arrive b f) = refl
+all-small (notice b f) = refl
+
+-- a refusal's number is from 1 to 12, and so never 0
+pub refusal-range : (n : ℕ) (lim : Limit) (s : Run) (a : Step) (k : ℕ) → Fails (checks n lim s a) k → (1 ≤ k) × (k ≤ 12)
+unfolding small
+refusal-range n lim s a k f =
+    let p = both (leb 1 k) (leb k 12) (among small (refusals a) k (all-small a) (refusal-among n lim s a k f)) in
+    (leb-true 1 k (p .0), leb-true k 12 (p .1))

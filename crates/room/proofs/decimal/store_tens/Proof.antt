@@ -1,0 +1,33 @@
+-- `store_tens` meets its contract. Two parts, the second of which is one digit. Assumes nothing.
+use native.Mathlib.Omega.{arith}
+use Rattle.spelling.proofs.Decimals.{parts-front, parts-last, parts-stored}
+use borrow.Author.Needs.{needs}
+use Rattle.room.proofs.decimal.store_tens.Statement.{statement}
+use Rattle.room.proofs.decimal.store_tens.Tie as tie
+
+store-digit-requires : tie.Need-store-digit-requires
+store-digit-requires c κs =
+    let s = c .before .before in
+    (omega arith, parts-front (s .args .n) (omega arith) (omega arith) _ (s .pre .2))
+
+store-digit-requires-2 : tie.Need-store-digit-requires-2
+store-digit-requires-2 c κs =
+    let s = c .before .before .before .before .before .before in
+    (omega arith, parts-last (s .args .n) (omega arith) (omega arith) (c .before .before .before .store-digit .ensures) (s .pre .2))
+
+same-length : tie.Need-same-length
+same-length c = search needs
+
+returns : tie.Need-returns
+returns c =
+    let s = c .before .before .before .before .before .before .before .before .before in
+    parts-stored (s .args .n) (omega arith) (omega arith) (c .before .before .before .before .before .before .store-digit .ensures) (c .before .before .store-digit2 .ensures)
+
+pub store-tens-spec : {M : Type 1} → statement M
+store-tens-spec =
+    tie.close
+    (tie.spec
+    store-digit-requires
+    store-digit-requires-2
+    same-length
+    returns)

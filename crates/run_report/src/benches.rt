@@ -1,0 +1,72 @@
+// One line for each bench that is not fresh, in rising number: state, last round sent or 0, decided value or `none`.
+ghost use Prim.Native.Nat.{_+_, _≤_};
+ghost use lib.ListN.{length};
+ghost use Rattle.spelling.specs.Stored.{Stored, fitting};
+ghost use Rattle.tables.specs.Runs.{stateOf};
+ghost use Rattle.rounds.specs.Decisions.{decisionIs};
+ghost use Rattle.run_report.specs.Report.{stateText, valueText};
+ghost use Rattle.run_report.specs.Parts.{rowLine, rowLines};
+use kinds::BenchNo;
+use room::bytes::put_bytes;
+use room::decimal::put_field;
+use room::decimal::put_number;
+use rounds::Benches;
+use rounds::Decision;
+use rounds::decision_of;
+use rounds::sent_of;
+use rounds::state_of;
+
+// Stores the lines of the benches at the room's front, and answers the place behind them. None is longer than 67 bytes.
+pub(crate) fn store_benches(room: &mut [u8], benches: &Benches) -> usize
+    requires { ⌜ 1072 ≤ length (now room) ⌝ }
+    ensures { λ r. ⌜ Stored (now (room .entry)) 0 (rowLines (now (benches .entry)) 16) r (now (room .exit)) ⌝ }
+{
+    let mut at = 0;
+    for k in 0..16u32 {
+        let b = k + 1;
+        at = store_bench(room, at, benches, BenchNo(b));
+    }
+    at
+}
+
+// A fresh bench has no line.
+fn store_bench(room: &mut [u8], at: usize, benches: &Benches, bench: BenchNo) -> usize
+    requires { ⌜ at + 67 ≤ length (now room) ⌝ }
+    ensures { λ r. ⌜ Stored (now (room .entry)) at (rowLine (now (benches .entry)) (bench .0)) r (now (room .exit)) ⌝ }
+{
+    let state = state_of(benches, bench);
+    if state == 0 {
+        return at;
+    }
+    let sent = sent_of(benches, bench);
+    let decision = decision_of(benches, bench);
+    let a = put_field(room, at, b"bench=", bench.0);
+    let b = put_bytes(room, a, b" state=");
+    let c = put_state(room, b, state);
+    let d = put_field(room, c, b" round=", sent);
+    let e = put_bytes(room, d, b" value=");
+    let f = put_value(room, e, decision);
+    put_bytes(room, f, b"\n")
+}
+
+fn put_state(room: &mut [u8], at: usize, state: u32) -> usize
+    ensures { λ r. ⌜ Stored (now (room .entry)) at (fitting (now (room .entry)) at (stateText (stateOf state))) r (now (room .exit)) ⌝ }
+{
+    match state {
+        0 => put_bytes(room, at, b"fresh"),
+        1 => put_bytes(room, at, b"running"),
+        2 => put_bytes(room, at, b"decided"),
+        3 => put_bytes(room, at, b"abstained"),
+        4 => put_bytes(room, at, b"left"),
+        _ => put_bytes(room, at, b"failed"),
+    }
+}
+
+fn put_value(room: &mut [u8], at: usize, decision: Decision) -> usize
+    ensures { λ r. ⌜ Stored (now (room .entry)) at (fitting (now (room .entry)) at (valueText (decisionIs decision))) r (now (room .exit)) ⌝ }
+{
+    match decision {
+        Decision::None => put_bytes(room, at, b"none"),
+        Decision::Chosen(value) => put_number(room, at, value.0),
+    }
+}

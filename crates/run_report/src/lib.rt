@@ -1,0 +1,60 @@
+// A text played and its report, for a caller that lends the room. The text is read once and the report is written once: the answers
+// are kept, one byte a line, so that the room is measured before its first byte is written.
+// The contracts cite specs/Report.antt, the report that document 01 wants, and specs/Reported.antt.
+ghost use mathlib.Core.Path.{_≡_};
+ghost use Rattle.run_report.specs.Reported.{Reports, lengthFor, roomAfter};
+
+mod answers; // answers.rt: the answers' lines measured and stored
+mod benches; // benches.rt: the benches' lines
+mod playing; // playing.rt: a text played
+mod totals; // totals.rt: the last line
+
+use answers::room_for;
+use answers::store_answers;
+use benches::store_benches;
+use kinds::AnswerNo;
+use playing::play;
+use room::bytes::put_bytes;
+use totals::store_totals;
+
+// The report's length in bytes, or the number of a refusal.
+pub enum Reported {
+    Length(usize),
+    Refused(AnswerNo),
+}
+
+// Plays the text and writes its report to the front of the room. A refusal leaves the room as it was, and so does the report all
+// that stands behind it.
+pub fn report(text: &[u8], room: &mut [u8]) -> Reported
+    ensures { λ r. ⌜ Reports (now (text .entry)) (now (room .entry)) r (now (room .exit)) ⌝ }
+{
+    if 65536 < text.len() {
+        return Reported::Refused(23);
+    }
+    let mut benches = [[0u32; 25]; 16];
+    let mut logs = [[0u32; 192]; 16];
+    let mut kept = [0u8; 65536];
+    let lines = play(text, &mut benches, &mut logs, &mut kept);
+    let answers = &kept[..lines];
+    // what stands behind the answers: 16 lines of at most 67 bytes, and one of at most 36
+    let mut rest = [0u8; 1108];
+    let last = store_benches(&mut rest, &benches);
+    let n = store_totals(&mut rest, last, answers);
+    if !room_for(room, answers, n) {
+        return Reported::Refused(22);
+    }
+    let at = store_answers(room, answers);
+    Reported::Length(put_bytes(room, at, &rest[..n]))
+}
+
+// The same for C: the report's length, or 0 of a refusal. No report has the length 0.
+#[no_mangle]
+pub extern "C" fn funkenrille_report(text: &[u8], room: &mut [u8]) -> usize
+    ensures { λ r. ⌜ r ≡ lengthFor (now (text .entry)) (now (room .entry)) ⌝ }
+    ensures { λ _. ⌜ now (room .exit) ≡ roomAfter (now (text .entry)) (now (room .entry)) ⌝ }
+{
+    match report(text, room) {
+        Reported::Length(n) => n,
+        Reported::Refused(_) => 0,
+    }
+}

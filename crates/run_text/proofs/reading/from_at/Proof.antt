@@ -1,0 +1,37 @@
+-- `from_at` meets its contract. By whether the key stands there. Assumes nothing.
+use native.Mathlib.Omega.{arith}
+use denote.Ref.{now}
+use Rattle.spelling.specs.Numbers.{ascii}
+use Rattle.spelling.proofs.Keys.{key-place, field-none, field-some}
+use borrow.Author.Needs.{needs}
+use Rattle.run_text.proofs.reading.from_at.Statement.{statement}
+use Rattle.run_text.proofs.reading.from_at.Tie as tie
+
+slice-aggregate-starts : tie.Need-slice-aggregate-starts
+slice-aggregate-starts c = search needs
+
+starts-requires : tie.Need-starts-requires
+starts-requires c κs = search needs
+
+returns : tie.Need-returns
+returns c = search field-none
+
+add-number-at : tie.Need-add-number-at
+add-number-at c = omega (arith, key-place (ascii " from=") (now (c .before .before .before .before .args .text)) (c .before .before .before .before .args .at) (c .before .starts .ensures) (c .if1 .left), c .before .before .before .before .fits .at .fits, c .before .before .before .before .good .0 .0)
+
+number-at-requires : tie.Need-number-at-requires
+number-at-requires c κs = search needs
+
+returns-2 : tie.Need-returns-2
+returns-2 c = search field-some
+
+pub from-at-spec : {M : Type 1} → statement M
+from-at-spec =
+    tie.close
+    (tie.spec
+    slice-aggregate-starts
+    starts-requires
+    returns
+    add-number-at
+    number-at-requires
+    returns-2)

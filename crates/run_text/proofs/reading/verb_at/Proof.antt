@@ -1,0 +1,86 @@
+-- `verb_at` meets its contract. The first key that stands there. Assumes nothing.
+use native.Mathlib.Omega.{arith}
+use mathlib.Core.Path.{refl, sym, _∙_}
+use denote.Ref.{now}
+use Rattle.spelling.specs.Numbers.{ascii}
+use Rattle.spelling.specs.Reading.{keyOf, verbAt}
+use Rattle.spelling.proofs.Keys.{key-room}
+use borrow.Author.Needs.{needs}
+use Rattle.run_text.proofs.reading.verb_at.Statement.{statement}
+use Rattle.run_text.proofs.reading.verb_at.Tie as tie
+
+slice-aggregate-starts : tie.Need-slice-aggregate-starts
+slice-aggregate-starts c = search needs
+
+starts-requires : tie.Need-starts-requires
+starts-requires c κs = search needs
+
+add-t10 : tie.Need-add-t10
+add-t10 c = omega (arith, key-room (ascii "arrive bench=") (now (c .before .before .before .before .args .text)) (c .before .before .before .before .args .at) (c .before .starts .ensures) (c .if1 .taken), c .before .before .before .before .fits .at .fits, c .before .before .before .before .good .0 .0)
+
+returns : tie.Need-returns
+unfolding verbAt keyOf
+returns c = rw (sym (c .before .starts .ensures) ∙ c .if1 .taken) refl
+
+slice-aggregate-starts-2 : tie.Need-slice-aggregate-starts-2
+slice-aggregate-starts-2 c = search needs
+
+starts-requires-2 : tie.Need-starts-requires-2
+starts-requires-2 c κs = search needs
+
+add-t15 : tie.Need-add-t15
+add-t15 c = omega (arith, key-room (ascii "turn bench=") (now (c .before .before .before .before .before .before .before .args .text)) (c .before .before .before .before .before .before .before .args .at) (c .before .starts2 .ensures) (c .if2 .taken), c .before .before .before .before .before .before .before .fits .at .fits, c .before .before .before .before .before .before .before .good .0 .0)
+
+returns-2 : tie.Need-returns-2
+unfolding verbAt keyOf
+returns-2 c = rw (
+  sym (c .before .before .before .before .starts .ensures) ∙ c .before .before .before .if1 .left,
+  sym (c .before .starts2 .ensures) ∙ c .if2 .taken,
+) refl
+
+slice-aggregate-starts-3 : tie.Need-slice-aggregate-starts-3
+slice-aggregate-starts-3 c = search needs
+
+starts-requires-3 : tie.Need-starts-requires-3
+starts-requires-3 c κs = search needs
+
+add-t20 : tie.Need-add-t20
+add-t20 c = omega (arith, key-room (ascii "notice bench=") (now (c .before .before .before .before .before .before .before .before .before .before .args .text)) (c .before .before .before .before .before .before .before .before .before .before .args .at) (c .before .starts3 .ensures) (c .if3 .taken), c .before .before .before .before .before .before .before .before .before .before .fits .at .fits, c .before .before .before .before .before .before .before .before .before .before .good .0 .0)
+
+returns-3 : tie.Need-returns-3
+unfolding verbAt keyOf
+returns-3 c = rw (
+  sym (c .before .before .before .before .before .before .before .starts .ensures) ∙ c .before .before .before .before .before .before .if1 .left,
+  sym (c .before .before .before .before .starts2 .ensures) ∙ c .before .before .before .if2 .left,
+  sym (c .before .starts3 .ensures) ∙ c .if3 .taken,
+) refl
+
+rare-verb-at-requires : tie.Need-rare-verb-at-requires
+rare-verb-at-requires c κs = search needs
+
+returns-4 : tie.Need-returns-4
+unfolding verbAt keyOf
+returns-4 c = rw (
+  sym (c .before .before .before .before .before .before .before .before .starts .ensures) ∙ c .before .before .before .before .before .before .before .if1 .left,
+  sym (c .before .before .before .before .before .starts2 .ensures) ∙ c .before .before .before .before .if2 .left,
+  sym (c .before .before .starts3 .ensures) ∙ c .before .if3 .left,
+) (c .rare-verb-at .ensures)
+
+pub verb-at-spec : {M : Type 1} → statement M
+verb-at-spec =
+    tie.close
+    (tie.spec
+    slice-aggregate-starts
+    starts-requires
+    add-t10
+    returns
+    slice-aggregate-starts-2
+    starts-requires-2
+    add-t15
+    returns-2
+    slice-aggregate-starts-3
+    starts-requires-3
+    add-t20
+    returns-3
+    rare-verb-at-requires
+    returns-4)

@@ -1,0 +1,11 @@
+pub mod Numbers
+pub mod Lines
+pub mod Stored
+pub mod Spelling
+pub mod Text
+pub mod Fields
+pub mod Reading
+pub mod Storing
+pub mod InTurn
+pub mod LedgerReading
+pub mod LedgerSteps
