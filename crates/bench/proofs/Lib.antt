@@ -1,4 +1,3 @@
 pub mod Numbers
-pub mod Members
 pub mod Visits
 pub mod Answers

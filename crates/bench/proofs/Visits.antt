@@ -8,7 +8,7 @@ use lib.Dec.{eqb}
 use lib.ListN.{getD}
 use lib.Bits.{bitAnd}
 use borrow.Author.Tests.{not-true, not-false, eq-eqb, ne-eqb}
-use Rattle.bench.specs.Sets.{has}
+use Rattle.common.specs.Places.{has}
 use Rattle.bench.specs.Turns.{awaitedAt, differs, forbidsBy, forbidsAt, least}
 use Rattle.bench.specs.declared.Bench.{Bench}
 use Rattle.bench.specs.declared.Heard.{Heard}

@@ -11,11 +11,11 @@ use Rattle.bench.specs.declared.Bench.{Bench}
 
 -- n round messages are taken of the line k
 unfoldable pub takenOf : Bench → ℕ → ℕ → Bench
-takenOf b k n = record { state = b .state; round = b .round; value = b .value; world = b .world; outs = b .outs; noticed = b .noticed; sent = b .sent; out = b .out; chose = b .chose; taken = set (b .taken) k n }
+takenOf b k n = record { state = b .state; round = b .round; value = b .value; world = b .world; outs = b .outs; noticed = b .noticed; sent = b .sent; silent = b .silent; chose = b .chose; taken = set (b .taken) k n }
 
 -- OUT is taken of the line k
 unfoldable pub outOf : Bench → ℕ → Bench
-outOf b k = record { state = b .state; round = b .round; value = b .value; world = b .world; outs = bitOr (b .outs) (2 ^ k); noticed = b .noticed; sent = b .sent; out = b .out; chose = b .chose; taken = b .taken }
+outOf b k = record { state = b .state; round = b .round; value = b .value; world = b .world; outs = bitOr (b .outs) (2 ^ k); noticed = b .noticed; sent = b .sent; silent = b .silent; chose = b .chose; taken = b .taken }
 
 -- a message is taken: lines are in order and without gaps, so the round of a round message is their count
 unfoldable pub takeOf : Bench → ℕ → Message → Bench
@@ -23,7 +23,7 @@ takeOf b k (Round m) = takenOf b k (m .round .0)
 takeOf b k Out = outOf b k
 
 unfoldable pub noticeOf : Bench → ℕ → Bench
-noticeOf b k = record { state = b .state; round = b .round; value = b .value; world = b .world; outs = b .outs; noticed = bitOr (b .noticed) (2 ^ k); sent = b .sent; out = b .out; chose = b .chose; taken = b .taken }
+noticeOf b k = record { state = b .state; round = b .round; value = b .value; world = b .world; outs = b .outs; noticed = bitOr (b .noticed) (2 ^ k); sent = b .sent; silent = b .silent; chose = b .chose; taken = b .taken }
 
 -- the same by bench numbers: no bench outside 1 to N is taken from or noticed
 unfoldable pub takeFrom : ℕ → Bench → ℕ → Message → Bench
@@ -33,19 +33,19 @@ unfoldable pub noticeFrom : ℕ → Bench → ℕ → Bench
 noticeFrom N b f = cond (isBench N f) (noticeOf b (f - 1)) b
 
 unfoldable pub inState : ℕ → Bench → Bench
-inState s b = record { state = s; round = b .round; value = b .value; world = b .world; outs = b .outs; noticed = b .noticed; sent = b .sent; out = b .out; chose = b .chose; taken = b .taken }
+inState s b = record { state = s; round = b .round; value = b .value; world = b .world; outs = b .outs; noticed = b .noticed; sent = b .sent; silent = b .silent; chose = b .chose; taken = b .taken }
 
 -- the bench, running in round r
 unfoldable pub inRound : ℕ → SlotNo → ℕ → Bench → Bench
-inRound r v w b = record { state = 1; round = record { 0 = r }; value = v; world = w; outs = b .outs; noticed = b .noticed; sent = b .sent; out = b .out; chose = b .chose; taken = b .taken }
+inRound r v w b = record { state = 1; round = record { 0 = r }; value = v; world = w; outs = b .outs; noticed = b .noticed; sent = b .sent; silent = b .silent; chose = b .chose; taken = b .taken }
 
 unfoldable pub choosing : Bench → Bench
-choosing b = record { state = 2; round = b .round; value = b .value; world = b .world; outs = b .outs; noticed = b .noticed; sent = b .sent; out = b .out; chose = 1; taken = b .taken }
+choosing b = record { state = 2; round = b .round; value = b .value; world = b .world; outs = b .outs; noticed = b .noticed; sent = b .sent; silent = b .silent; chose = 1; taken = b .taken }
 
 -- the last round sent is r
 unfoldable pub sentTo : ℕ → Bench → Bench
-sentTo r b = record { state = b .state; round = b .round; value = b .value; world = b .world; outs = b .outs; noticed = b .noticed; sent = r; out = b .out; chose = b .chose; taken = b .taken }
+sentTo r b = record { state = b .state; round = b .round; value = b .value; world = b .world; outs = b .outs; noticed = b .noticed; sent = r; silent = b .silent; chose = b .chose; taken = b .taken }
 
 -- OUT is sent
 unfoldable pub sentOut : Bench → Bench
-sentOut b = record { state = b .state; round = b .round; value = b .value; world = b .world; outs = b .outs; noticed = b .noticed; sent = b .sent; out = 1; chose = b .chose; taken = b .taken }
+sentOut b = record { state = b .state; round = b .round; value = b .value; world = b .world; outs = b .outs; noticed = b .noticed; sent = b .sent; silent = 1; chose = b .chose; taken = b .taken }

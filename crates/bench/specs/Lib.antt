@@ -1,3 +1,2 @@
-pub mod Sets
 pub mod Changes
 pub mod Turns

@@ -6,7 +6,7 @@ use lib.Dec.{eqb, ltb}
 use lib.ListN.{getD}
 use lib.Bits.{bitAnd}
 use Rattle.kinds.specs.declared.Message.the-variants.{Round, Out}
-use Rattle.bench.specs.Sets.{has, some}
+use Rattle.common.specs.Places.{has, some}
 use Rattle.bench.specs.Changes.{inRound, choosing}
 use Rattle.bench.specs.declared.Bench.{Bench}
 use Rattle.bench.specs.declared.Heard.{Heard}

@@ -4,10 +4,10 @@ ghost use mathlib.Core.Path.{_≡_};
 ghost use Prim.Native.Nat.{_<_};
 ghost use Rattle.bench.specs.Changes.{takeOf, takeFrom, noticeOf, noticeFrom};
 use crate::Bench;
-use crate::sets::is_bench;
-use crate::sets::only;
 use kinds::BenchNo;
 use kinds::Message;
+use sets::is_bench;
+use sets::only;
 
 impl Bench {
     // The bench takes a message of bench `from`; its own too. It stays as it was where there is no such bench.

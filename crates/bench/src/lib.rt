@@ -2,20 +2,16 @@
 // Its messages stand in its log, which the run keeps; `taken` says how far it has read each log.
 
 mod changes;
-mod sets;
 mod turns;
 
 use kinds::AnswerNo;
 use kinds::Message;
 use kinds::RoundNo;
 use kinds::SlotNo;
-pub use sets::has;
-pub use sets::is_bench;
-pub use sets::only;
 
 // state: 0 fresh, 1 running, 2 decided, 3 abstained, 4 left, 5 and above failed.
 // Sets of benches hold bench i as bit i - 1: `world`, `outs` (whose OUT it has taken) and `noticed`.
-// sent: the last round sent, or 0. out: 1 once it has sent OUT. chose: 1 once it has decided on `value`.
+// sent: the last round sent, or 0. silent: 1 once it has sent OUT. chose: 1 once it has decided on `value`.
 // taken: how many round messages it has taken of each bench, its own included.
 pub struct Bench {
     pub state: u32,
@@ -25,7 +21,7 @@ pub struct Bench {
     pub outs: u32,
     pub noticed: u32,
     pub sent: u32,
-    pub out: u32,
+    pub silent: u32,
     pub chose: u32,
     pub taken: [u32; 16],
 }

@@ -8,12 +8,12 @@ use crate::Bench;
 use crate::Gathered;
 use crate::Heard;
 use crate::Turned;
-use crate::sets::has;
 use kinds::AnswerNo;
 use kinds::Message;
 use kinds::RoundMessage;
 use kinds::RoundNo;
 use kinds::SlotNo;
+use sets::has;
 
 impl Bench {
     // The bench looks at each member of its world. Where it refuses, the bench is handed back as it was.

@@ -1,4 +1,5 @@
 pub mod Benches
 pub mod Worlds
+pub mod Places
 pub mod Updates
 pub mod Checks

@@ -5,5 +5,3 @@ pub mod Turning
 pub mod Moving
 pub mod Starting
 pub mod Numbers
-pub mod Reading
-pub mod Settled

@@ -3,15 +3,14 @@ use mathlib.Core.Path.{_≡_, refl, sym, ap, _∙_}
 use mathlib.Core.Bool.{Bool, true, false}
 use mathlib.Core.List.{List}
 use Prim.Native.Nat.{ℕ, _<_, _≤_}
-use lib.Dec.{eqb, ltb}
 use lib.ListN.{getD, set}
-use borrow.Author.Tests.{lt-ltb, le-ltb, eq-eqb, ne-eqb}
 use Rattle.kinds.specs.declared.Message.{Message}
 use Rattle.kinds.specs.declared.Message.the-variants.{Out}
 use Rattle.bench.specs.declared.Waiting.{Waiting}
 use Rattle.bench.specs.declared.Waiting.the-variants.{Next, Nothing}
-use Rattle.bench.specs.Sets.{has}
+use Rattle.common.specs.Places.{has}
 use Rattle.bench.specs.Changes.{takeOf, noticeOf, inState}
+use Rattle.common.proofs.Tests.{word-eq, word-ne, word-above, word-within}
 use Rattle.tables.specs.Rows.{rowOf, rows, logs}
 use Rattle.tables.specs.Lines.{waitingOf}
 use Rattle.tables.specs.Steps.{Act, Acts, acted, refused, sentOf, abstainAt, leaveAt, failAt, arriveAt, noticeAt, takeNext, nextOn}
@@ -24,22 +23,8 @@ refuses p =
       logs = ap (λ (x : Act). x .tables .logs) (sym p);
     }
 
--- what was tested of a word that was read is so of the row
-module _ {s x : ℕ} (is : s ≡ x) where
-  pub word-eq : (n : ℕ) → s ≡ n → eqb x n ≡ true
-  word-eq n h = eq-eqb x n (sym is ∙ h)
-
-  pub word-ne : (n : ℕ) → (s ≡ n → ⊥) → eqb x n ≡ false
-  word-ne n h = ne-eqb x n (λ e. h (is ∙ e))
-
-  pub word-above : (n : ℕ) → n < s → ltb n x ≡ true
-  word-above n h = lt-ltb n x (rw (← is) h)
-
-  pub word-within : (n : ℕ) → s ≤ n → ltb n x ≡ false
-  word-within n h = le-ltb n x (rw (← is) h)
-
-  word-has : {q v : Bool} (j : ℕ) → q ≡ has s j → q ≡ v → has x j ≡ v
-  word-has j e h = rw (← is) (sym e ∙ h)
+word-has : {s x : ℕ} (is : s ≡ x) {q v : Bool} (j : ℕ) → q ≡ has s j → q ≡ v → has x j ≡ v
+word-has is j e h = rw (← is) (sym e ∙ h)
 
 -- the benches change, the logs do not
 abbrev changes : {t t′ l : List (List ℕ)} → t′ ≡ t → Acts 0 t′ l (acted (record { benches = t; logs = l }))
@@ -66,7 +51,7 @@ module _ (t l : List (List ℕ)) (k s : ℕ) (is-s : s ≡ rows 16 t k .state) w
   unfolding leaveAt
   leave-state h = refuses (rw (word-above is-s 3 h) refl)
 
-  module _ (here : s ≤ 3) (o : ℕ) (is-o : o ≡ rows 16 t k .out) where
+  module _ (here : s ≤ 3) (o : ℕ) (is-o : o ≡ rows 16 t k .silent) where
     pub leave-silent : (t′ : List (List ℕ)) → o ≡ 1 → t′ ≡ set t k (rowOf 16 (inState 4 (rows 16 t k))) → Acts 0 t′ l (leaveAt 16 96 t l k)
     unfolding leaveAt
     leave-silent t′ h d = rw (word-within is-s 3 here, word-eq is-o 1 h) (changes d)
@@ -90,7 +75,7 @@ module _ (t l : List (List ℕ)) (k j s : ℕ) (is-s : s ≡ rows 16 t k .state)
     arrive-closed e = refuses (rw (word-within is-s 1 live, word-has is-g j is-q e) refl)
 
     module _ (unclosed : q ≡ false) (n outs sent out : ℕ) (o : Bool) (x : Waiting) (is-n : n ≡ getD (rows 16 t k .taken) j 0) (is-outs : outs ≡ rows 16 t k .outs)
-        (is-o : o ≡ has outs j) (is-sent : sent ≡ rows 16 t j .sent) (is-out : out ≡ rows 16 t j .out) (is-x : x ≡ waitingOf 96 (logs l j) n o sent out) where
+        (is-o : o ≡ has outs j) (is-sent : sent ≡ rows 16 t j .sent) (is-out : out ≡ rows 16 t j .silent) (is-x : x ≡ waitingOf 96 (logs l j) n o sent out) where
       waits : nextOn 16 96 t l k j ≡ x
       unfolding nextOn
       waits = rw (← is-n, ← is-outs, ← is-o, ← is-sent, ← is-out) (sym is-x)

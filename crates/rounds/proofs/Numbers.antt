@@ -7,18 +7,17 @@ use borrow.Author.Tests.{eq-eqb, ne-eqb, not-true, not-false}
 use Rattle.common.specs.Benches.{isBench}
 use Rattle.tables.specs.Steps.{Act, Acts, atBench, atBenches}
 use Rattle.rounds.proofs.Moving.{refuses}
-
-pub known : (b : ℕ) (q : Bool) → q ≡ isBench 16 b → not q ≡ false → isBench 16 b ≡ true
-known b q is-q e = sym is-q ∙ not-false q e
+use Rattle.common.specs.Places.{placeOf}
+use Rattle.sets.proofs.Numbers.{place-some}
 
 module _ (t l : List (List ℕ)) (b : ℕ) (q : Bool) (is-q : q ≡ isBench 16 b) where
   pub at-none : (f : ℕ → Act) → not q ≡ true → Acts 1 t l (atBench 16 t l f b)
   unfolding atBench
   at-none f e = refuses (rw (sym is-q ∙ not-true q e) refl)
 
-  pub at-place : (f : ℕ → Act) (p r : ℕ) (t′ l′ : List (List ℕ)) → not q ≡ false → p ≡ b - 1 → Acts r t′ l′ (f p) → Acts r t′ l′ (atBench 16 t l f b)
+  pub at-place : (f : ℕ → Act) (p r : ℕ) (t′ l′ : List (List ℕ)) → not q ≡ false → p ≡ placeOf 16 b → Acts r t′ l′ (f p) → Acts r t′ l′ (atBench 16 t l f b)
   unfolding atBench
-  at-place f p r t′ l′ e i d = rw (sym is-q ∙ not-false q e, ← i) d
+  at-place f p r t′ l′ e i d = rw (sym is-q ∙ not-false q e, place-some b q is-q e ∙ sym i) d
 
   module _ (g : ℕ → ℕ → Act) (f : ℕ) where
     pub between-none : not q ≡ true → Acts 1 t l (atBenches 16 t l g b f)
@@ -35,6 +34,6 @@ module _ (t l : List (List ℕ)) (b : ℕ) (q : Bool) (is-q : q ≡ isBench 16 b
         unfolding atBenches
         between-same e = refuses (rw (sym is-q ∙ not-false q known-b, sym is-q′ ∙ not-false q′ known-f, eq-eqb b f e) refl)
 
-        pub between-places : (p p′ r : ℕ) (t′ l′ : List (List ℕ)) → (b ≡ f → ⊥) → p ≡ b - 1 → p′ ≡ f - 1 → Acts r t′ l′ (g p p′) → Acts r t′ l′ (atBenches 16 t l g b f)
+        pub between-places : (p p′ r : ℕ) (t′ l′ : List (List ℕ)) → (b ≡ f → ⊥) → p ≡ placeOf 16 b → p′ ≡ placeOf 16 f → Acts r t′ l′ (g p p′) → Acts r t′ l′ (atBenches 16 t l g b f)
         unfolding atBenches
-        between-places p p′ r t′ l′ e i i′ d = rw (sym is-q ∙ not-false q known-b, sym is-q′ ∙ not-false q′ known-f, ne-eqb b f e, ← i, ← i′) d
+        between-places p p′ r t′ l′ e i i′ d = rw (sym is-q ∙ not-false q known-b, sym is-q′ ∙ not-false q′ known-f, ne-eqb b f e, place-some b q is-q known-b ∙ sym i, place-some f q′ is-q′ known-f ∙ sym i′) d

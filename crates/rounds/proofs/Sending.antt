@@ -12,7 +12,7 @@ use Rattle.bench.specs.declared.Bench.{Bench}
 use Rattle.bench.specs.Changes.{takeOf, takenOf, outOf, inState, inRound, sentTo, sentOut}
 use Rattle.tables.specs.Rows.{rowOf}
 use Rattle.tables.specs.Steps.{Acts, acted, putAt, sentOf}
-use Rattle.rounds.specs.Sending.{HasRoom, Keeps}
+use Rattle.rounds.specs.Sending.{HasRoom, ChangesOwn}
 
 module _ (m : Message) (rm : RoundMessage) (is-m : m ≡ Round rm) (room : HasRoom m) where
   inside : HasRoom (Round rm)
@@ -39,10 +39,10 @@ module _ (t l t′ : List (List ℕ)) (k : ℕ) (b : Bench) (m : Message) where
 
 -- the bench of a row, in another round or state
 module _ (b c : Bench) (same : b ≡ c) where
-  pub keeps-round : (r : ℕ) (v : SlotNo) (w : ℕ) → Keeps (inRound r v w b) c
+  pub keeps-round : (r : ℕ) (v : SlotNo) (w : ℕ) → ChangesOwn (inRound r v w b) c
   unfolding inRound
-  keeps-round r v w = rw same (record { outs = refl; noticed = refl; sent = refl; out = refl; taken = refl })
+  keeps-round r v w = rw same (record { outs = refl; noticed = refl; sent = refl; silent = refl; taken = refl })
 
-  pub keeps-state : (s : ℕ) → Keeps (inState s b) c
+  pub keeps-state : (s : ℕ) → ChangesOwn (inState s b) c
   unfolding inState
-  keeps-state s = rw same (record { outs = refl; noticed = refl; sent = refl; out = refl; taken = refl })
+  keeps-state s = rw same (record { outs = refl; noticed = refl; sent = refl; silent = refl; taken = refl })

@@ -1,38 +1,16 @@
--- One law for each way through start, and through what it asks of each bench. Assumes nothing.
+-- One law for each way through start. Assumes nothing.
 use mathlib.Core.Path.{_≡_, refl, sym, _∙_}
 use mathlib.Core.Bool.{Bool, true, false, not}
-use mathlib.Core.List.{List, []}
+use mathlib.Core.List.{List}
 use Prim.Native.Nat.{ℕ, _<_, _≤_, suc-le-suc}
-use lib.ListN.{getD}
 use borrow.Author.Tests.{lt-ltb, le-ltb, not-true, not-false}
-use Rattle.bench.specs.Sets.{has}
+use Rattle.common.specs.Places.{has}
 use Rattle.bench.specs.Changes.{inRound}
-use Rattle.tables.specs.Rows.{ofRow, rows}
+use Rattle.tables.specs.Rows.{rows}
 use Rattle.tables.specs.Lines.{message}
-use Rattle.tables.specs.Steps.{Acts, acted, sentOf, leftOutAt, leavesOut, shutOutAt, shutsOut, startAt}
-use Rattle.rounds.proofs.Moving.{refuses, word-eq, word-ne, word-above, word-within}
-
-module _ (t : List (List ℕ)) (w j s : ℕ) (is-s : s ≡ rows 16 t j .state) where
-  pub left-out-running : (q : Bool) → s ≡ 1 → q ≡ has w j → not q ≡ leftOutAt t w j
-  unfolding leftOutAt ofRow
-  left-out-running q e h = rw (word-eq is-s 1 e, h) refl
-
-  pub left-out-decided : (q : Bool) → (s ≡ 1 → ⊥) → s ≡ 2 → q ≡ has w j → not q ≡ leftOutAt t w j
-  unfolding leftOutAt ofRow
-  left-out-decided q n e h = rw (word-ne is-s 1 n, word-eq is-s 2 e, h) refl
-
-  pub left-out-other : (s ≡ 1 → ⊥) → (s ≡ 2 → ⊥) → false ≡ leftOutAt t w j
-  unfolding leftOutAt ofRow
-  left-out-other n e = rw (word-ne is-s 1 n, word-ne is-s 2 e) refl
-
-module _ (t l : List (List ℕ)) (k j s : ℕ) (is-s : s ≡ rows 16 t j .sent) where
-  pub shut-out-started : (q : Bool) → 0 < s → q ≡ has (getD (getD l j []) 96 0) k → not q ≡ shutOutAt 96 t l k j
-  unfolding shutOutAt ofRow
-  shut-out-started q h e = rw (word-above is-s 0 h, e) refl
-
-  pub shut-out-never : s ≤ 0 → false ≡ shutOutAt 96 t l k j
-  unfolding shutOutAt ofRow
-  shut-out-never h = rw (word-within is-s 0 h) refl
+use Rattle.tables.specs.Steps.{Acts, acted, sentOf, lacksOne, lackedByOne, startAt}
+use Rattle.rounds.proofs.Moving.{refuses}
+use Rattle.common.proofs.Tests.{word-eq, word-ne}
 
 module _ (t l : List (List ℕ)) (v w k s : ℕ) (is-s : s ≡ rows 16 t k .state) where
   pub start-state : (s ≡ 0 → ⊥) → Acts 3 t l (startAt 16 96 t l v w k)
@@ -54,12 +32,12 @@ module _ (t l : List (List ℕ)) (v w k s : ℕ) (is-s : s ≡ rows 16 t k .stat
         unfolding startAt
         start-alien e = refuses (rw (word-eq is-s 0 fresh, le-ltb 65535 v slot, lt-ltb w 65536 (suc-le-suc below), sym is-q ∙ not-true q e) refl)
 
-        module _ (inside : not q ≡ false) (o : Bool) (is-o : o ≡ leavesOut 16 t w) where
+        module _ (inside : not q ≡ false) (o : Bool) (is-o : o ≡ lacksOne 16 t w) where
           pub start-leaves : o ≡ true → Acts 6 t l (startAt 16 96 t l v w k)
           unfolding startAt
           start-leaves e = refuses (rw (word-eq is-s 0 fresh, le-ltb 65535 v slot, lt-ltb w 65536 (suc-le-suc below), sym is-q ∙ not-false q inside, sym is-o ∙ e) refl)
 
-          module _ (whole : o ≡ false) (x : Bool) (is-x : x ≡ shutsOut 16 96 t l k) where
+          module _ (whole : o ≡ false) (x : Bool) (is-x : x ≡ lackedByOne 16 96 t l k) where
             pub start-shut : x ≡ true → Acts 7 t l (startAt 16 96 t l v w k)
             unfolding startAt
             start-shut e = refuses (rw (word-eq is-s 0 fresh, le-ltb 65535 v slot, lt-ltb w 65536 (suc-le-suc below), sym is-q ∙ not-false q inside, sym is-o ∙ whole, sym is-x ∙ e) refl)

@@ -18,7 +18,7 @@ use Rattle.bench.specs.Turns.{awaitsOf, forbidsOf, refuses, goOnOf, concludes, 
 use Rattle.tables.specs.Rows.{rows}
 use Rattle.tables.specs.Lines.{heardOf}
 use Rattle.tables.specs.Steps.{Acts, acted, sentOf, turnBy, turnOn, turnAt}
-use Rattle.rounds.specs.Sending.{HasRoom, Keeps}
+use Rattle.rounds.specs.Sending.{HasRoom, ChangesOwn}
 use Rattle.rounds.proofs.Moving as moving
 
 abbrev Sends : Answer → Type 0
@@ -42,17 +42,17 @@ sends : (b : Bench) (h : Heard) → Sends (turnOf 16 96 b h .answer)
 unfolding goOnOf inRound
 sends b h = turn-ind b h (λ r. Sends (r .answer)) tt tt tt tt (λ e. omega arith)
 
-keeps : (b : Bench) (h : Heard) → Keeps (turnOf 16 96 b h .bench) b
+keeps : (b : Bench) (h : Heard) → ChangesOwn (turnOf 16 96 b h .bench) b
 unfolding goOnOf inRound choosing
 keeps b h =
-    let k : Keeps b b = record { outs = refl; noticed = refl; sent = refl; out = refl; taken = refl } in
-    turn-ind b h (λ r. Keeps (r .bench) b) k k k
-    (record { outs = refl; noticed = refl; sent = refl; out = refl; taken = refl })
-    (λ e. record { outs = refl; noticed = refl; sent = refl; out = refl; taken = refl })
+    let k : ChangesOwn b b = record { outs = refl; noticed = refl; sent = refl; silent = refl; taken = refl } in
+    turn-ind b h (λ r. ChangesOwn (r .bench) b) k k k
+    (record { outs = refl; noticed = refl; sent = refl; silent = refl; taken = refl })
+    (λ e. record { outs = refl; noticed = refl; sent = refl; silent = refl; taken = refl })
 
 module _ (b : Bench) (h : Heard) (r : Turned) (is-r : r ≡ turnOf 16 96 b h) where
   -- what is handed back is still the bench that was asked
-  pub turn-keeps : (c : Bench) → b ≡ c → Keeps (r .bench) c
+  pub turn-keeps : (c : Bench) → b ≡ c → ChangesOwn (r .bench) c
   turn-keeps c e = rw (is-r, ← e) (keeps b h)
 
   pub room-decided : (v : SlotNo) (m : Message) → r .answer ≡ Decided v m → HasRoom m

@@ -11,11 +11,11 @@ use Rattle.kinds.specs.declared.Message.{Message}
 use Rattle.kinds.specs.declared.Message.the-variants.{Round, Out}
 use Rattle.bench.specs.declared.Bench.{Bench}
 use Rattle.bench.specs.Changes.{takeOf, takenOf, outOf, noticeOf, inState, sentTo, sentOut}
-use Rattle.bench.proofs.Members.{only-small}
+use Rattle.common.proofs.Places.{only-small}
 use Rattle.tables.specs.Rows.{from, ofRow, rowOf, rows}
 use Rattle.tables.specs.Steps.{putAt}
 use Rattle.tables.proofs.Rows.{from-all, put-word}
-use Rattle.rounds.specs.Sending.{Keeps, ownAt}
+use Rattle.rounds.specs.Sending.{ChangesOwn, ownAt}
 
 length-from : (l : List ℕ) (i n : ℕ) → length (from l i n) ≡ n
 length-from l i zero = refl
@@ -55,13 +55,13 @@ module _ (N : ℕ) (l : List ℕ) (full : length l ≡ 9 + N) where
       ap (λ (r : List ℕ). set r (9 + j) x) words ∙ rw (e, from-all N (set (from l 9 N) j x) (length-set (from l 9 N) j x ∙ length-from l 9 N)) refl
 
   -- a bench that is the row's own but for what it changes itself, and that has sent a round message or OUT
-  module _ (b : Bench) (kept : Keeps b (ofRow N l)) where
+  module _ (b : Bench) (kept : ChangesOwn b (ofRow N l)) where
     spoken-words : (k n : ℕ) → set (set (own b l) 6 n) (9 + k) n ≡ rowOf N (sentTo n (takenOf b k n))
     unfolding rowOf ofRow sentTo takenOf own
     spoken-words k n =
         let e : 9 + k ≡ suc (suc (suc (suc (suc (suc (suc (suc (suc k)))))))) = omega arith in
         ap (λ (r : List ℕ). set (set (own b r) 6 n) (9 + k) n) words
-        ∙ rw (e, kept .outs, kept .noticed, kept .out, kept .taken, from-all N (set (from l 9 N) k n) (length-set (from l 9 N) k n ∙ length-from l 9 N)) refl
+        ∙ rw (e, kept .outs, kept .noticed, kept .silent, kept .taken, from-all N (set (from l 9 N) k n) (length-set (from l 9 N) k n ∙ length-from l 9 N)) refl
 
     parted-words : (k : ℕ) → set (set (own b l) 4 (bitOr (b .outs) (2 ^ k))) 7 1 ≡ rowOf N (sentOut (outOf b k))
     unfolding rowOf ofRow sentOut outOf own
@@ -95,7 +95,7 @@ module _ (N : ℕ) (t : List (List ℕ)) (k : ℕ) where
     unfolding takeOf
     puts-out j x m h e i = rw (i, e ∙ only-small j (omega arith)) (ap (set t k) (outs-word N (getD t k []) full j))
 
-    module _ (b : Bench) (kept : Keeps b (rows N t k)) where
+    module _ (b : Bench) (kept : ChangesOwn b (rows N t k)) where
       at : k < length t
       at = there t k (8 + N) (full ∙ omega arith)
 

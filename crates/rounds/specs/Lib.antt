@@ -1,3 +1,1 @@
 pub mod Sending
-pub mod Decisions
-pub mod Reads

@@ -12,11 +12,11 @@ HasRoom (Round m) = (1 ≤ m .round .0) × (m .round .0 ≤ 96)
 HasRoom Out = Unit {0}
 
 -- b is c but for what a bench changes of itself: its state, round, value, world and choice
-pub record Keeps (b c : Bench) : Type 0 where
+pub record ChangesOwn (b c : Bench) : Type 0 where
   pub outs : b .outs ≡ c .outs
   pub noticed : b .noticed ≡ c .noticed
   pub sent : b .sent ≡ c .sent
-  pub out : b .out ≡ c .out
+  pub silent : b .silent ≡ c .silent
   pub taken : b .taken ≡ c .taken
 
 -- what b has changed of itself, in row k

@@ -1,44 +1,33 @@
 // A run as two lent tables: a row for each bench, and its log. The seven steps, and one over all of them.
 // Each promises `tableStep` of crate `tables`, for all tables that can be handed in: the answer, 0 or the refusal's number, and both
 // tables after. A refusal leaves both as they were.
-mod fails;
+mod arrivals;
+mod departures;
 mod lines;
-mod parts;
-mod reads;
 mod rows;
 mod sends;
 mod starts;
-mod takes;
 mod turns;
 
 ghost use mathlib.Core.Path.{_≡_};
 ghost use Rattle.published.specs.Rounds as published;
 ghost use Rattle.kinds.specs.Stand.{stepOf};
 ghost use Rattle.tables.specs.Steps.{Acts, tableStep, emptyTables};
-use crate::fails::fail_at;
-use crate::fails::notice_at;
-use crate::parts::abstain_at;
-use crate::parts::leave_at;
-use crate::rows::place;
+use crate::arrivals::arrive_at;
+use crate::arrivals::notice_at;
+use crate::departures::abstain_at;
+use crate::departures::fail_at;
+use crate::departures::leave_at;
 use crate::starts::start_at;
-use crate::takes::arrive_at;
 use crate::turns::turn_at;
-use bench::is_bench;
 use kinds::AnswerNo;
 use kinds::BenchNo;
 use kinds::SlotNo;
 use kinds::Step;
-pub use reads::decision_of;
-pub use reads::sent_of;
-pub use reads::state_of;
-pub use rows::Benches;
-pub use rows::Logs;
-
-// What a bench has decided.
-pub enum Decision {
-    None,
-    Chosen(SlotNo),
-}
+use sets::is_bench;
+use sets::place;
+use tables::Benches;
+use tables::Logs;
 
 // A new run: every bench is fresh and every log is blank.
 pub fn empty(benches: &mut Benches, logs: &mut Logs)

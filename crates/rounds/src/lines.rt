@@ -4,17 +4,17 @@ ghost use mathlib.Core.Path.{_≡_};
 ghost use Prim.Native.Nat.{_<_};
 ghost use Rattle.tables.specs.Rows.{rows, logs};
 ghost use Rattle.tables.specs.Lines.{waitingOf, heardOf};
-use crate::rows::Benches;
-use crate::rows::Logs;
 use crate::rows::round_at;
 use crate::rows::taken_at;
 use bench::Heard;
 use bench::Waiting;
-use bench::only;
 use kinds::Message;
 use kinds::RoundMessage;
 use kinds::RoundNo;
 use kinds::SlotNo;
+use sets::only;
+use tables::Benches;
+use tables::Logs;
 
 // What waits on the line from the bench at j, which has sent round messages up to `sent`, and OUT if `out` is 1: behind n round
 // messages taken, and OUT if `ended`.

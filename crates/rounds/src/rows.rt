@@ -1,6 +1,4 @@
-// A bench's row: the one file that knows where each word stands.
-// 0 state, 1 round, 2 value, 3 world, 4 outs, 5 noticed, 6 sent, 7 out, 8 chose, and from 9 on what is taken of each place.
-// A log's row has the value of round r at r - 1 and its world 96 places further.
+// A bench's row, read and written, whole or by the words that a step needs. Crate `tables` says where each word stands.
 
 ghost use mathlib.Core.Path.{_≡_};
 ghost use mathlib.Core.Bool.{true};
@@ -9,25 +7,24 @@ ghost use lib.ListN.{length, getD, set};
 ghost use Rattle.common.specs.Benches.{isBench};
 ghost use Rattle.bench.specs.Changes.{takeOf, takenOf, outOf, noticeOf, inState, sentTo, sentOut};
 ghost use Rattle.tables.specs.Rows.{readRow, rowOf, rows};
-ghost use Rattle.rounds.specs.Sending.{Keeps, ownAt};
+ghost use Rattle.rounds.specs.Sending.{ChangesOwn, ownAt};
 use bench::Bench;
-use bench::only;
 use kinds::BenchNo;
 use kinds::Message;
 use kinds::RoundNo;
 use kinds::SlotNo;
-
-pub type Benches = [[u32; 25]; 16];
-
-pub type Logs = [[u32; 192]; 16];
-
-// The place of a bench: its row in both tables, counted from 0.
-pub(crate) fn place(bench: BenchNo) -> usize
-    requires { ⌜ isBench 16 (bench .0) ≡ true ⌝ }
-    ensures { λ r. ⌜ (r ≡ bench .0 - 1) × (r < 16) ⌝ }
-{
-    (bench.0 - 1) as usize
-}
+use sets::only;
+use tables::Benches;
+use tables::CHOSE;
+use tables::NOTICED;
+use tables::OUTS;
+use tables::ROUND;
+use tables::SENT;
+use tables::SILENT;
+use tables::STATE;
+use tables::TAKEN;
+use tables::VALUE;
+use tables::WORLD;
 
 // ---- the whole row
 
@@ -42,32 +39,32 @@ fn read_row(row: [u32; 25]) -> Bench
     ensures { λ r. ⌜ r ≡ readRow 16 row ⌝ }
 {
     Bench {
-        state: row[0],
-        round: RoundNo(row[1]),
-        value: SlotNo(row[2]),
-        world: row[3],
-        outs: row[4],
-        noticed: row[5],
-        sent: row[6],
-        out: row[7],
-        chose: row[8],
+        state: row[STATE],
+        round: RoundNo(row[ROUND]),
+        value: SlotNo(row[VALUE]),
+        world: row[WORLD],
+        outs: row[OUTS],
+        noticed: row[NOTICED],
+        sent: row[SENT],
+        silent: row[SILENT],
+        chose: row[CHOSE],
         taken: [
-            row[9],
-            row[10],
-            row[11],
-            row[12],
-            row[13],
-            row[14],
-            row[15],
-            row[16],
-            row[17],
-            row[18],
-            row[19],
-            row[20],
-            row[21],
-            row[22],
-            row[23],
-            row[24],
+            row[TAKEN],
+            row[TAKEN + 1],
+            row[TAKEN + 2],
+            row[TAKEN + 3],
+            row[TAKEN + 4],
+            row[TAKEN + 5],
+            row[TAKEN + 6],
+            row[TAKEN + 7],
+            row[TAKEN + 8],
+            row[TAKEN + 9],
+            row[TAKEN + 10],
+            row[TAKEN + 11],
+            row[TAKEN + 12],
+            row[TAKEN + 13],
+            row[TAKEN + 14],
+            row[TAKEN + 15],
         ],
     }
 }
@@ -78,42 +75,42 @@ pub(crate) fn state_at(t: &Benches, k: usize) -> u32
     requires { ⌜ k < 16 ⌝ }
     ensures { λ r. ⌜ r ≡ rows 16 (now (t .entry)) k .state ⌝ }
 {
-    t[k][0]
+    t[k][STATE]
 }
 
 pub(crate) fn round_at(t: &Benches, k: usize) -> u32
     requires { ⌜ k < 16 ⌝ }
     ensures { λ r. ⌜ r ≡ rows 16 (now (t .entry)) k .round .0 ⌝ }
 {
-    t[k][1]
+    t[k][ROUND]
 }
 
 pub(crate) fn outs_at(t: &Benches, k: usize) -> u32
     requires { ⌜ k < 16 ⌝ }
     ensures { λ r. ⌜ r ≡ rows 16 (now (t .entry)) k .outs ⌝ }
 {
-    t[k][4]
+    t[k][OUTS]
 }
 
 pub(crate) fn noticed_at(t: &Benches, k: usize) -> u32
     requires { ⌜ k < 16 ⌝ }
     ensures { λ r. ⌜ r ≡ rows 16 (now (t .entry)) k .noticed ⌝ }
 {
-    t[k][5]
+    t[k][NOTICED]
 }
 
 pub(crate) fn sent_at(t: &Benches, k: usize) -> u32
     requires { ⌜ k < 16 ⌝ }
     ensures { λ r. ⌜ r ≡ rows 16 (now (t .entry)) k .sent ⌝ }
 {
-    t[k][6]
+    t[k][SENT]
 }
 
-pub(crate) fn out_at(t: &Benches, k: usize) -> u32
+pub(crate) fn silent_at(t: &Benches, k: usize) -> u32
     requires { ⌜ k < 16 ⌝ }
-    ensures { λ r. ⌜ r ≡ rows 16 (now (t .entry)) k .out ⌝ }
+    ensures { λ r. ⌜ r ≡ rows 16 (now (t .entry)) k .silent ⌝ }
 {
-    t[k][7]
+    t[k][SILENT]
 }
 
 // How many round messages bench k has taken of place j.
@@ -121,7 +118,7 @@ pub(crate) fn taken_at(t: &Benches, k: usize, j: usize) -> u32
     requires { ⌜ (k < 16) × (j < 16) ⌝ }
     ensures { λ r. ⌜ r ≡ getD (rows 16 (now (t .entry)) k .taken) j 0 ⌝ }
 {
-    t[k][9 + j]
+    t[k][TAKEN + j]
 }
 
 // ---- one word written: every other word of the row stays
@@ -131,7 +128,7 @@ pub(crate) fn put_state(t: &mut Benches, k: usize, state: u32)
     ensures { λ _. ⌜ now (t .exit) ≡ set (now (t .entry)) k (rowOf 16 (inState state (rows 16 (now (t .entry)) k))) ⌝ }
 {
     full(t[k]);
-    t[k][0] = state;
+    t[k][STATE] = state;
 }
 
 // The bench at k notices the bench at j, as `Bench::notice` has it.
@@ -140,7 +137,7 @@ pub(crate) fn put_notice(t: &mut Benches, k: usize, j: usize)
     ensures { λ _. ⌜ now (t .exit) ≡ set (now (t .entry)) k (rowOf 16 (noticeOf (rows 16 (now (t .entry)) k) j)) ⌝ }
 {
     full(t[k]);
-    t[k][5] = t[k][5] | only(j);
+    t[k][NOTICED] = t[k][NOTICED] | only(j);
 }
 
 // The bench at k takes a message of the bench at j, as `Bench::take` has it.
@@ -151,10 +148,10 @@ pub(crate) fn put_take(t: &mut Benches, k: usize, j: usize, m: Message)
     full(t[k]);
     match m {
         Message::Round(rm) => {
-            t[k][9 + j] = rm.round.0;
+            t[k][TAKEN + j] = rm.round.0;
         }
         Message::Out => {
-            t[k][4] = t[k][4] | only(j);
+            t[k][OUTS] = t[k][OUTS] | only(j);
         }
     }
 }
@@ -163,24 +160,24 @@ pub(crate) fn put_take(t: &mut Benches, k: usize, j: usize, m: Message)
 
 // The bench at k, now b, has sent its message of round n, and has taken it.
 pub(crate) fn put_spoken(t: &mut Benches, k: usize, b: Bench, n: u32)
-    requires { ⌜ (k < 16) × Keeps b (rows 16 (now t) k) ⌝ }
+    requires { ⌜ (k < 16) × ChangesOwn b (rows 16 (now t) k) ⌝ }
     ensures { λ _. ⌜ now (t .exit) ≡ set (now (t .entry)) k (rowOf 16 (sentTo n (takenOf b k n))) ⌝ }
 {
     full(t[k]);
     put_own(&mut *t, k, b);
-    t[k][6] = n;
-    t[k][9 + k] = n;
+    t[k][SENT] = n;
+    t[k][TAKEN + k] = n;
 }
 
 // The bench at k, now b, has sent OUT, and has taken it.
 pub(crate) fn put_parted(t: &mut Benches, k: usize, b: Bench)
-    requires { ⌜ (k < 16) × Keeps b (rows 16 (now t) k) ⌝ }
+    requires { ⌜ (k < 16) × ChangesOwn b (rows 16 (now t) k) ⌝ }
     ensures { λ _. ⌜ now (t .exit) ≡ set (now (t .entry)) k (rowOf 16 (sentOut (outOf b k))) ⌝ }
 {
     full(t[k]);
     put_own(&mut *t, k, b);
-    t[k][4] = b.outs | only(k);
-    t[k][7] = 1;
+    t[k][OUTS] = b.outs | only(k);
+    t[k][SILENT] = 1;
 }
 
 // What a bench changes of itself.
@@ -188,11 +185,11 @@ fn put_own(t: &mut Benches, k: usize, b: Bench)
     requires { ⌜ k < 16 ⌝ }
     ensures { λ _. ⌜ now (t .exit) ≡ ownAt (now (t .entry)) k b ⌝ }
 {
-    t[k][0] = b.state;
-    t[k][1] = b.round.0;
-    t[k][2] = b.value.0;
-    t[k][3] = b.world;
-    t[k][8] = b.chose;
+    t[k][STATE] = b.state;
+    t[k][ROUND] = b.round.0;
+    t[k][VALUE] = b.value.0;
+    t[k][WORLD] = b.world;
+    t[k][CHOSE] = b.chose;
 }
 
 // Nothing is done: of an array by value the checker knows the length, of one that is lent it does not.

@@ -6,9 +6,7 @@ ghost use Rattle.bench.specs.Changes.{inState, inRound};
 ghost use Rattle.tables.specs.Rows.{rows};
 ghost use Rattle.tables.specs.Lines.{message};
 ghost use Rattle.tables.specs.Steps.{Acts, acted, sentOf};
-ghost use Rattle.rounds.specs.Sending.{HasRoom, Keeps};
-use crate::rows::Benches;
-use crate::rows::Logs;
+ghost use Rattle.rounds.specs.Sending.{HasRoom, ChangesOwn};
 use crate::rows::load;
 use crate::rows::put_parted;
 use crate::rows::put_spoken;
@@ -17,10 +15,12 @@ use kinds::Message;
 use kinds::RoundMessage;
 use kinds::RoundNo;
 use kinds::SlotNo;
+use tables::Benches;
+use tables::Logs;
 
 // The bench at k, now b, sends a message.
 pub(crate) fn send(benches: &mut Benches, logs: &mut Logs, k: usize, b: Bench, m: Message)
-    requires { ⌜ (k < 16) × HasRoom m × Keeps b (rows 16 (now benches) k) ⌝ }
+    requires { ⌜ (k < 16) × HasRoom m × ChangesOwn b (rows 16 (now benches) k) ⌝ }
     ensures { λ _. ⌜ Acts 0 (now (benches .exit)) (now (logs .exit)) (acted (sentOf 16 96 (now (benches .entry)) (now (logs .entry)) k b m)) ⌝ }
 {
     match m {

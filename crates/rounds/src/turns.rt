@@ -3,13 +3,13 @@
 ghost use Prim.Native.Nat.{_<_};
 ghost use Rattle.tables.specs.Steps.{Acts, turnAt};
 use crate::lines::heard_by;
-use crate::rows::Benches;
-use crate::rows::Logs;
 use crate::rows::load;
 use crate::rows::state_at;
 use crate::sends::send;
 use bench::Answer;
 use kinds::AnswerNo;
+use tables::Benches;
+use tables::Logs;
 
 // The state is looked at first, since a bench that is not running needs no more of its row.
 pub(crate) fn turn_at(benches: &mut Benches, logs: &mut Logs, k: usize) -> AnswerNo

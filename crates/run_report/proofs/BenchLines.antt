@@ -13,9 +13,9 @@ use Rattle.common.specs.Benches.{isBench}
 use Rattle.common.proofs.Tests.{cond-ind}
 use Rattle.tables.specs.Runs.{roundsOf, lineOf, stateOf, benchOf, runBy, runOf}
 use Rattle.tables.proofs.States.{fresh-is}
-use Rattle.rounds.specs.declared.Decision.{Decision as Decided}
-use Rattle.rounds.specs.Decisions.{decisionIs}
-use Rattle.rounds.specs.Reads.{stateWord, sentWord, decisionAt}
+use Rattle.reads.specs.declared.Decision.{Decision as Decided}
+use Rattle.reads.specs.Decisions.{decisionIs}
+use Rattle.reads.specs.Reads.{stateWord, sentWord, decisionAt}
 use Rattle.spelling.specs.Numbers.{ascii, digits}
 use Rattle.spelling.specs.Stored.{Stored}
 use Rattle.spelling.proofs.Decimals.{digits-length}

@@ -7,7 +7,7 @@ use lib.Dec.{eqb}
 use lib.ListN.{length, take}
 use Rattle.published.specs.Rounds.{newRun}
 use Rattle.tables.specs.Runs.{stateOf, runOf}
-use Rattle.rounds.specs.Reads.{stateWord, sentWord, decisionAt}
+use Rattle.reads.specs.Reads.{stateWord, sentWord, decisionAt}
 use Rattle.spelling.specs.Numbers.{ascii, digits}
 use Rattle.spelling.specs.Reading.{readText}
 use Rattle.run_report.specs.Report.{answersFrom, runAfter, stateText, valueText}

@@ -3,7 +3,7 @@ ghost use Prim.Native.Nat.{_+_, _≤_};
 ghost use lib.ListN.{length};
 ghost use Rattle.spelling.specs.Stored.{Stored, fitting};
 ghost use Rattle.tables.specs.Runs.{stateOf};
-ghost use Rattle.rounds.specs.Decisions.{decisionIs};
+ghost use Rattle.reads.specs.Decisions.{decisionIs};
 ghost use Rattle.run_report.specs.Report.{stateText, valueText};
 ghost use Rattle.run_report.specs.Parts.{rowLine, rowLines};
 use kinds::BenchNo;

@@ -15,14 +15,14 @@ use Rattle.published.specs.Rounds.{done, refuse}
 use Rattle.common.proofs.Tests.{split}
 use Rattle.common.proofs.Updates.{put-ind, put-same, put-other, put-self}
 use Rattle.bench.specs.declared.Bench.{Bench}
-use Rattle.bench.specs.Sets.{has}
+use Rattle.common.specs.Places.{has}
 use Rattle.tables.specs.Rows.{rowOf, rows, logs}
 use Rattle.tables.specs.Steps.{refused, acted, stored}
 use Rattle.tables.specs.Runs.{lineOf, takenBy, benchOf, runBy, runOf}
 use Rattle.tables.specs.Sound.{Fit, Ok, Sound}
 use Rattle.tables.specs.Meets.{Links}
 use Rattle.tables.proofs.Rows.{rows-set, logs-set}
-use Rattle.tables.proofs.Lines.{Keeps, keeps-all, line-kept}
+use Rattle.tables.proofs.Lines.{KeepsRounds, keeps-all, line-kept}
 
 -- two published benches are equal by their parts
 pub bench-path : (x y : published.Bench) → x .state ≡ y .state → x .round ≡ y .round → x .value ≡ y .value → x .world ≡ y .world
@@ -33,18 +33,18 @@ bench-path x y p₁ p₂ p₃ p₄ p₅ p₆ p₇ p₈ =
 -- b becomes b′: it has sent at least as much, and nothing behind OUT
 pub record Grows (b b′ : Bench) : Type 0 where
   pub more : b .sent ≤ b′ .sent
-  pub still : eqb (b .out) 1 ≡ true → (eqb (b′ .out) 1 ≡ true) × (b .sent ≡ b′ .sent)
+  pub still : eqb (b .silent) 1 ≡ true → (eqb (b′ .silent) 1 ≡ true) × (b .sent ≡ b′ .sent)
 
 -- what bench k of benches B with logs L can become, with its log: every step shows this of its bench
 pub record Becomes (N R : ℕ) (B : ℕ → Bench) (L : ℕ → List ℕ) (k : ℕ) (b : Bench) (log : List ℕ) : Type 0 where
   pub size : length log ≡ R + R
-  pub keeps : Keeps R (L k) log (B k .sent)
+  pub keeps : KeepsRounds R (L k) log (B k .sent)
   pub grows : Grows (B k) b
   pub fit : Fit N R b
   pub own : getD (b .taken) k 0 ≡ b .sent
-  pub own-out : has (b .outs) k ≡ eqb (b .out) 1
+  pub own-out : has (b .outs) k ≡ eqb (b .silent) 1
   pub line : (j : ℕ) → (j ≡ k → ⊥) → getD (b .taken) j 0 ≤ B j .sent
-  pub end : (j : ℕ) → (j ≡ k → ⊥) → has (b .outs) j ≡ true → (eqb (B j .out) 1 ≡ true) × (getD (b .taken) j 0 ≡ B j .sent)
+  pub end : (j : ℕ) → (j ≡ k → ⊥) → has (b .outs) j ≡ true → (eqb (B j .silent) 1 ≡ true) × (getD (b .taken) j 0 ≡ B j .sent)
   pub worlds : (i : ℕ) → i < b .sent → getD log (i + R) 0 < 2 ^ N
 
 module _ (N R : ℕ) where
@@ -84,7 +84,7 @@ module _ (N R : ℕ) where
     Line x j y = getD (x .taken) j 0 ≤ y .sent
 
     abbrev End : Bench → ℕ → Bench → Type 0
-    End x j y = has (x .outs) j ≡ true → (eqb (y .out) 1 ≡ true) × (getD (x .taken) j 0 ≡ y .sent)
+    End x j y = has (x .outs) j ≡ true → (eqb (y .silent) 1 ≡ true) × (getD (x .taken) j 0 ≡ y .sent)
 
     line-own : Line b k b
     line-own = omega (arith, m .own)
@@ -96,7 +96,7 @@ module _ (N R : ℕ) where
     ok-change = record {
       fit = λ i. put-ind (λ (y : Bench). Fit N R y) B k b i (λ e. m .fit) (λ e. ok .fit i);
       own = λ i. put-ind (λ (y : Bench). getD (y .taken) i 0 ≡ y .sent) B k b i (λ e. rw e (m .own)) (λ e. ok .own i);
-      own-out = λ i. put-ind (λ (y : Bench). has (y .outs) i ≡ eqb (y .out) 1) B k b i (λ e. rw e (m .own-out)) (λ e. ok .own-out i);
+      own-out = λ i. put-ind (λ (y : Bench). has (y .outs) i ≡ eqb (y .silent) 1) B k b i (λ e. rw e (m .own-out)) (λ e. ok .own-out i);
       line = λ i j. put-ind (λ (y : Bench). Line y j (put B k b j)) B k b i
           (λ e. put-ind (λ (y : Bench). Line b j y) B k b j (λ e′. rw e′ line-own) (λ e′. m .line j e′))
           (λ e. put-ind (λ (y : Bench). Line (B i) j y) B k b j
@@ -147,7 +147,7 @@ module _ (N R : ℕ) where
           (changes (logs l k) m x (ap (λ (Q : ℕ → List ℕ). benchOf R Q k b) (put-self (logs l) k) ∙ e))
 
       -- b has sent and taken what bench k has
-      pub idle : Fit N R b → b .sent ≡ rows N t k .sent → b .out ≡ rows N t k .out → b .outs ≡ rows N t k .outs → b .taken ≡ rows N t k .taken
+      pub idle : Fit N R b → b .sent ≡ rows N t k .sent → b .silent ≡ rows N t k .silent → b .outs ≡ rows N t k .outs → b .taken ≡ rows N t k .taken
           → Becomes N R (rows N t) (logs l) k b (logs l k)
       idle fit e₁ e₂ e₃ e₄ = record {
         size = s .places k h;

@@ -10,12 +10,12 @@ use borrow.Author.Tests.{ltb-true, ltb-false}
 use Rattle.published.specs.Rounds.{newRun, newBench}
 use Rattle.common.proofs.Tests.{split, clash}
 use Rattle.bench.specs.declared.Bench.{Bench}
-use Rattle.bench.specs.Sets.{has}
+use Rattle.common.specs.Places.{has}
 use Rattle.tables.specs.Rows.{ofRow, rows, logs}
 use Rattle.tables.specs.Steps.{emptyTables}
 use Rattle.tables.specs.Runs.{roundsOf, lineOf, stateOf, takenBy, noticedBy, decisionOf, benchOf, runBy, runOf}
 use Rattle.tables.specs.Sound.{Ok, Sound}
-use Rattle.tables.proofs.Sets.{has-none}
+use Rattle.common.proofs.Sets.{has-none}
 use Rattle.tables.proofs.Rows.{zeros, blank, load-zeros}
 use Rattle.tables.proofs.Change.{bench-path}
 

@@ -76,17 +76,17 @@ module _ (R : ℕ) where
   -- ---- two logs
 
   -- log′ has the entries of log for the rounds up to m
-  abbrev pub Keeps : List ℕ → List ℕ → ℕ → Type 0
-  Keeps log log′ m = (q : ℕ) → q < m → (getD log′ q 0 ≡ getD log q 0) × (getD log′ (q + R) 0 ≡ getD log (q + R) 0)
+  abbrev pub KeepsRounds : List ℕ → List ℕ → ℕ → Type 0
+  KeepsRounds log log′ m = (q : ℕ) → q < m → (getD log′ q 0 ≡ getD log q 0) × (getD log′ (q + R) 0 ≡ getD log (q + R) 0)
 
-  pub keeps-all : (log : List ℕ) (m : ℕ) → Keeps log log m
+  pub keeps-all : (log : List ℕ) (m : ℕ) → KeepsRounds log log m
   keeps-all log m q h = (refl, refl)
 
-  pub rounds-kept : (log log′ : List ℕ) (m : ℕ) → Keeps log log′ m → (n : ℕ) → n ≤ m → roundsOf R log′ n ≡ roundsOf R log n
+  pub rounds-kept : (log log′ : List ℕ) (m : ℕ) → KeepsRounds log log′ m → (n : ℕ) → n ≤ m → roundsOf R log′ n ≡ roundsOf R log n
   unfolding roundsOf
   rounds-kept log log′ m f zero h = refl
   rounds-kept log log′ m f (suc n) h = rw (rounds-kept log log′ m f n (omega arith), f n (omega arith) .0, f n (omega arith) .1) refl
 
-  pub line-kept : (log log′ : List ℕ) (m : ℕ) → Keeps log log′ m → (n : ℕ) → n ≤ m → (o : Bool) → lineOf R log′ n o ≡ lineOf R log n o
+  pub line-kept : (log log′ : List ℕ) (m : ℕ) → KeepsRounds log log′ m → (n : ℕ) → n ≤ m → (o : Bool) → lineOf R log′ n o ≡ lineOf R log n o
   unfolding lineOf
   line-kept log log′ m f n h o = rw (rounds-kept log log′ m f n h) refl

@@ -10,9 +10,9 @@ use Rattle.common.proofs.Tests.{split}
 use Rattle.bench.specs.declared.Bench.{Bench}
 use Rattle.tables.specs.Rows.{logs}
 use Rattle.tables.specs.Lines.{hears, withMessage, heardTo, heardOf}
-use Rattle.tables.proofs.Lines.{Keeps}
+use Rattle.tables.proofs.Lines.{KeepsRounds}
 
-module _ (N R : ℕ) (b : Bench) (l l′ : List (List ℕ)) (same : (j : ℕ) → j < N → Keeps R (logs l j) (logs l′ j) (getD (b .taken) j 0)) where
+module _ (N R : ℕ) (b : Bench) (l l′ : List (List ℕ)) (same : (j : ℕ) → j < N → KeepsRounds R (logs l j) (logs l′ j) (getD (b .taken) j 0)) where
   heard-to-local : 1 ≤ b .round .0 → (n : ℕ) → n ≤ N → heardTo N R l′ b n ≡ heardTo N R l b n
   unfolding heardTo withMessage
   heard-to-local r zero h = refl

@@ -10,14 +10,14 @@ use Rattle.common.specs.Updates.{put}
 use Rattle.published.specs.Rounds.{done, noticing}
 use Rattle.common.proofs.Updates.{put-ind, put-other}
 use Rattle.bench.specs.declared.Bench.{Bench}
-use Rattle.bench.specs.Sets.{has}
+use Rattle.common.specs.Places.{has}
 use Rattle.bench.specs.Changes.{noticeOf, inState}
 use Rattle.tables.specs.Rows.{rows, logs}
 use Rattle.tables.specs.Steps.{acted, stored}
 use Rattle.tables.specs.Runs.{stateOf, takenBy, noticedBy, benchOf, runBy, runOf}
 use Rattle.tables.specs.Sound.{Fit, Sound}
 use Rattle.tables.specs.Meets.{Links}
-use Rattle.tables.proofs.Sets.{joined-same, joined-other}
+use Rattle.common.proofs.Sets.{joined-same, joined-other}
 use Rattle.tables.proofs.Change.{bench-path, remains, idle}
 
 module _ (N R : ℕ) where

@@ -47,12 +47,12 @@ module _ (N : ℕ) where
   load-row : (b : Bench) → length (b .taken) ≡ N → ofRow N (rowOf N b) ≡ b
   unfolding ofRow rowOf
   load-row b e =
-      ap (λ (x : List ℕ). record { state = b .state; round = b .round; value = b .value; world = b .world; outs = b .outs; noticed = b .noticed; sent = b .sent; out = b .out; chose = b .chose; taken = x })
-      (behind-nine N (b .state) (b .round .0) (b .value .0) (b .world) (b .outs) (b .noticed) (b .sent) (b .out) (b .chose) (from (b .taken) 0 N)
+      ap (λ (x : List ℕ). record { state = b .state; round = b .round; value = b .value; world = b .world; outs = b .outs; noticed = b .noticed; sent = b .sent; silent = b .silent; chose = b .chose; taken = x })
+      (behind-nine N (b .state) (b .round .0) (b .value .0) (b .world) (b .outs) (b .noticed) (b .sent) (b .silent) (b .chose) (from (b .taken) 0 N)
       ∙ rw (from-all N (b .taken) e) (from-all N (b .taken) e))
 
   abbrev pub blank : Bench
-  blank = record { state = 0; round = record { 0 = 0 }; value = record { 0 = 0 }; world = 0; outs = 0; noticed = 0; sent = 0; out = 0; chose = 0; taken = replicate N 0 }
+  blank = record { state = 0; round = record { 0 = 0 }; value = record { 0 = 0 }; world = 0; outs = 0; noticed = 0; sent = 0; silent = 0; chose = 0; taken = replicate N 0 }
 
   pub load-zeros : (l : List ℕ) → ((i : ℕ) → getD l i 0 ≡ 0) → ofRow N l ≡ blank
   unfolding ofRow
@@ -64,7 +64,7 @@ module _ (N : ℕ) where
     outs = f 4 i;
     noticed = f 5 i;
     sent = f 6 i;
-    out = f 7 i;
+    silent = f 7 i;
     chose = f 8 i;
     taken = from-zeros l f 9 N i;
   }

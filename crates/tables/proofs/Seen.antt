@@ -17,12 +17,12 @@ use Rattle.common.proofs.Tests.{split, clash, cond-ind}
 use Rattle.common.proofs.Worlds.{member-worldOf, worldOf-lt}
 use Rattle.bench.specs.declared.Bench.{Bench}
 use Rattle.bench.specs.declared.Heard.{Heard}
-use Rattle.bench.specs.Sets.{has}
+use Rattle.common.specs.Places.{has}
 use Rattle.bench.specs.Turns.{awaitedAt, awaitsOf, differs, forbidsBy, forbidsAt, forbidsOf, least}
 use Rattle.tables.specs.Rows.{logs}
 use Rattle.tables.specs.Lines.{hears, withMessage, heardTo, heardOf}
 use Rattle.tables.specs.Runs.{lineOf, takenBy, noticedBy, benchOf}
-use Rattle.tables.proofs.Sets.{member-has, has-none, has-and, joined-same, joined-other, same-members, within-is, every-some}
+use Rattle.common.proofs.Sets.{member-has, has-none, has-and, joined-same, joined-other, same-members, within-is, every-some}
 use Rattle.tables.proofs.Lines.{line-find, line-out}
 
 -- the view that a bench has of bench j + 1, by what it has heard
@@ -90,7 +90,7 @@ module _ (N R : ℕ) where
 
   -- ---- what is seen
 
-  module _ (L : ℕ → List ℕ) (k : ℕ) (b : Bench) (own : getD (b .taken) k 0 ≡ b .sent) (own-out : has (b .outs) k ≡ eqb (b .out) 1) where
+  module _ (L : ℕ → List ℕ) (k : ℕ) (b : Bench) (own : getD (b .taken) k 0 ≡ b .sent) (own-out : has (b .outs) k ≡ eqb (b .silent) 1) where
     -- what a bench has of bench j + 1, itself included, is the line up to its count
     got-is : (j : ℕ) → got (suc k) (benchOf R L k b) (suc j) ≡ lineOf R (L j) (getD (b .taken) j 0) (has (b .outs) j)
     unfolding got benchOf takenBy

@@ -22,9 +22,9 @@ use Rattle.tables.specs.Steps.{acted, stored, putAt, sentOf}
 use Rattle.tables.specs.Runs.{roundsOf, lineOf, stateOf, takenBy, decisionOf, benchOf, runBy, runOf}
 use Rattle.tables.specs.Sound.{Sound}
 use Rattle.tables.specs.Meets.{Links}
-use Rattle.tables.proofs.Sets.{joined-same, joined-other}
+use Rattle.common.proofs.Sets.{joined-same, joined-other}
 use Rattle.tables.proofs.Rows.{put-word}
-use Rattle.tables.proofs.Lines.{Keeps, keeps-all, rounds-kept}
+use Rattle.tables.proofs.Lines.{KeepsRounds, keeps-all, rounds-kept}
 use Rattle.tables.proofs.Change.{bench-path, Becomes, changes, remains}
 
 -- ---- a log with one round more
@@ -36,7 +36,7 @@ module _ (R : ℕ) (log : List ℕ) (q v w : ℕ) (size : length log ≡ R + R) 
   longer-size : length longer ≡ R + R
   longer-size = length-set (set log q v) (q + R) w ∙ length-set log q v ∙ size
 
-  longer-keeps : Keeps R log longer q
+  longer-keeps : KeepsRounds R log longer q
   longer-keeps i l = (
     getD-set-other (set log q v) (q + R) i w 0 (λ e. absurd (omega arith)) ∙ getD-set-other log q i v 0 (λ e. absurd (omega arith)),
     getD-set-other (set log q v) (q + R) (i + R) w 0 (λ e. absurd (omega arith)) ∙ getD-set-other log q (i + R) v 0 (λ e. absurd (omega arith)),
@@ -56,7 +56,7 @@ module _ (R : ℕ) (log : List ℕ) (q v w : ℕ) (size : length log ≡ R + R) 
 
 -- bench b in state st, with `chose` as given
 unfoldable pub withState : ℕ → ℕ → Bench → Bench
-withState st chose b = record { state = st; round = b .round; value = b .value; world = b .world; outs = b .outs; noticed = b .noticed; sent = b .sent; out = b .out; chose = chose; taken = b .taken }
+withState st chose b = record { state = st; round = b .round; value = b .value; world = b .world; outs = b .outs; noticed = b .noticed; sent = b .sent; silent = b .silent; chose = chose; taken = b .taken }
 
 -- the published bench x in a state and with a decision
 unfoldable pub withDecision : published.State → published.Decision → published.Bench → published.Bench
@@ -74,7 +74,7 @@ module _ (N R : ℕ) (t l : List (List ℕ)) (s : Sound N R t l) (k : ℕ) (h : 
 
   -- ---- OUT
 
-  module _ (st chose : ℕ) (quiet : eqb (b .out) 1 ≡ false) (h₂ : 2 ≤ st) (decided : st ≡ 2 → 1 ≤ b .sent) (abstained : st ≡ 3 → b .sent ≡ 0) where
+  module _ (st chose : ℕ) (quiet : eqb (b .silent) 1 ≡ false) (h₂ : 2 ≤ st) (decided : st ≡ 2 → 1 ≤ b .sent) (abstained : st ≡ 3 → b .sent ≡ 0) where
     abbrev parted : Bench
     parted = sentOut (takeOf (withState st chose b) k Out)
 

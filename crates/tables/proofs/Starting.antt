@@ -11,12 +11,12 @@ use borrow.Author.Tests.{ne-eqb, lt-ltb}
 use Rattle.published.specs.Rounds.{hasAll, inAll, hasStarted, startedWith, isGone, find, found, absent}
 use Rattle.common.specs.Worlds.{member}
 use Rattle.bench.specs.declared.Bench.{Bench}
-use Rattle.bench.specs.Sets.{has}
+use Rattle.common.specs.Places.{has}
 use Rattle.tables.specs.Rows.{ofRow, rows, logs}
-use Rattle.tables.specs.Steps.{leftOutAt, leavesOut, shutOutAt, shutsOut}
+use Rattle.tables.specs.Steps.{lacksAt, lacksOne, lackedAt, lackedByOne}
 use Rattle.tables.specs.Runs.{benchOf, runBy, runOf}
 use Rattle.tables.specs.Sound.{Fit, Sound}
-use Rattle.tables.proofs.Sets.{member-has, every-some}
+use Rattle.common.proofs.Sets.{member-has, every-some}
 use Rattle.tables.proofs.Lines.{line-find}
 use Rattle.tables.proofs.States.{by-state, gone-is}
 
@@ -35,7 +35,7 @@ module _ (N R : ℕ) (t l : List (List ℕ)) where
   -- the round 1 message of bench j + 1
   first-message : (j : ℕ) → find 1 (runOf N R t l (suc j) .sent) ≡ cond (ltb 0 (rows N t j .sent)) (found (getD (logs l j) 0 0) (getD (logs l j) R 0)) absent
   unfolding runOf runBy benchOf
-  first-message j = let e : 0 + R ≡ R = omega arith in line-find R (logs l j) (rows N t j .sent) 0 (eqb (rows N t j .out) 1) ∙ rw e refl
+  first-message j = let e : 0 + R ≡ R = omega arith in line-find R (logs l j) (rows N t j .sent) 0 (eqb (rows N t j .silent) 1) ∙ rw e refl
 
   started-is : (j : ℕ) → hasStarted (find 1 (runOf N R t l (suc j) .sent)) ≡ ltb 0 (rows N t j .sent)
   started-is j = rw (first-message j) (go (ltb 0 (rows N t j .sent)) (getD (logs l j) 0 0) (getD (logs l j) R 0))
@@ -48,9 +48,9 @@ module _ (N R : ℕ) (t l : List (List ℕ)) where
   unfolding runOf runBy benchOf
   left-is j = gone-is (rows N t j .state)
 
-  pub leaves-is : Sound N R t l → (w : ℕ) → hasAll N (runOf N R t l) w ≡ not (leavesOut N t w)
-  unfolding hasAll leavesOut leftOutAt ofRow
-  leaves-is s w = every-some (leftOutAt t w) (λ i. not (hasStarted (find 1 (runOf N R t l i .sent))) || isGone (runOf N R t l i .state) || member i w) N
+  pub lacks-is : Sound N R t l → (w : ℕ) → hasAll N (runOf N R t l) w ≡ not (lacksOne N t w)
+  unfolding hasAll lacksOne lacksAt ofRow
+  lacks-is s w = every-some (lacksAt t w) (λ i. not (hasStarted (find 1 (runOf N R t l i .sent))) || isGone (runOf N R t l i .state) || member i w) N
       (λ j h. rw (started-is j, left-is j, member-has j w, active N R (rows N t j) (s .ok .fit j)) (not-and (eqb (rows N t j .state) 1 || eqb (rows N t j .state) 2) (has w j)))
     where
       not-and : (a m : Bool) → (not a || m) ≡ not (a && not m)
@@ -58,9 +58,9 @@ module _ (N R : ℕ) (t l : List (List ℕ)) where
       not-and true false = refl
       not-and false m = refl
 
-  pub shuts-is : (k : ℕ) → inAll N (runOf N R t l) (suc k) ≡ not (shutsOut N R t l k)
-  unfolding inAll shutsOut shutOutAt ofRow
-  shuts-is k = every-some (shutOutAt R t l k) (λ i. startedWith (suc k) (find 1 (runOf N R t l i .sent))) N
+  pub lacked-is : (k : ℕ) → inAll N (runOf N R t l) (suc k) ≡ not (lackedByOne N R t l k)
+  unfolding inAll lackedByOne lackedAt ofRow
+  lacked-is k = every-some (lackedAt R t l k) (λ i. startedWith (suc k) (find 1 (runOf N R t l i .sent))) N
       (λ j h. rw (first-message j) (go (ltb 0 (rows N t j .sent)) (getD (logs l j) 0 0) (getD (logs l j) R 0)))
     where
       go : (c : Bool) (v w : ℕ) → startedWith (suc k) (cond c (found v w) absent) ≡ not (c && not (has w k))

@@ -12,21 +12,21 @@ use Rattle.common.specs.Worlds.{member}
 use Rattle.common.specs.Updates.{put}
 use Rattle.common.proofs.Tests.{both, split}
 use Rattle.kinds.specs.declared.Message.the-variants.{Out}
-use Rattle.bench.specs.Sets.{has}
+use Rattle.common.specs.Places.{has}
 use Rattle.bench.specs.Changes.{inState}
 use Rattle.tables.specs.Rows.{rows, logs}
-use Rattle.tables.specs.Steps.{acted, stored, sentOf, leavesOut, shutsOut, startAt, abstainAt, leaveAt, failAt, turnAt, arriveAt, noticeAt, tableStep}
+use Rattle.tables.specs.Steps.{acted, stored, sentOf, lacksOne, lackedByOne, startAt, abstainAt, leaveAt, failAt, turnAt, arriveAt, noticeAt, tableStep}
 use Rattle.tables.specs.Runs.{stateOf, noticedBy, benchOf, runBy, runOf}
 use Rattle.tables.specs.Sound.{Sound}
 use Rattle.tables.specs.Meets.{Links}
-use Rattle.tables.proofs.Sets.{member-has}
+use Rattle.common.proofs.Sets.{member-has}
 use Rattle.tables.proofs.Lines.{line-out}
 use Rattle.tables.proofs.States.{fresh-is, live-is, gone-is, failed-is}
 use Rattle.tables.proofs.Quiet.{goes-quietly, notices}
 use Rattle.tables.proofs.Sending.{withState, withDecision, sends-out, sends-round}
 use Rattle.tables.proofs.Taking.{takes-next}
 use Rattle.tables.proofs.Turning.{turn-links}
-use Rattle.tables.proofs.Starting.{leaves-is, shuts-is}
+use Rattle.tables.proofs.Starting.{lacks-is, lacked-is}
 use Rattle.tables.proofs.Checks.{not-above, asks, bars, all-hold, behind, at-bench, at-benches}
 
 module _ (N R : ℕ) (hR : 1 ≤ R) (t l : List (List ℕ)) (s : Sound N R t l) where
@@ -66,15 +66,15 @@ module _ (N R : ℕ) (hR : 1 ≤ R) (t l : List (List ℕ)) (s : Sound N R t l) 
       asks N R t l s 3 (eqb (rows N t k .state) 0) _ _ _ _ (fresh-test k) λ e₃.
       bars N R t l s 4 (ltb 65535 v) _ _ _ _ (not-above 65535 v) λ e₄.
       asks N R t l s 5 (ltb w (2 ^ N) && has w k) _ _ _ _ (world-test w k) λ e₅.
-      bars N R t l s 6 (leavesOut N t w) _ _ _ _ (leaves-is N R t l s w) λ e₆.
-      bars N R t l s 7 (shutsOut N R t l k) _ _ _ _ (shuts-is N R t l k) λ e₇.
+      bars N R t l s 6 (lacksOne N t w) _ _ _ _ (lacks-is N R t l s w) λ e₆.
+      bars N R t l s 7 (lackedByOne N R t l k) _ _ _ _ (lacked-is N R t l k) λ e₇.
       let new = eqb-true (rows N t k .state) 0 e₃ in let none = s .ok .fit k .fresh new in
       all-hold N R t l s _ _
       (sends-round N R t l s k h v w (ltb-true w (2 ^ N) (both (ltb w (2 ^ N)) (has w k) e₅ .0)) (omega arith) (omega arith) 1 (omega arith))
 
   -- ---- abstain, leave, fail: 3
 
-  parts : (k : ℕ) → k < N → (st : ℕ) → eqb (rows N t k .out) 1 ≡ false → 3 ≤ st → (st ≡ 3 → rows N t k .sent ≡ 0)
+  parts : (k : ℕ) → k < N → (st : ℕ) → eqb (rows N t k .silent) 1 ≡ false → 3 ≤ st → (st ≡ 3 → rows N t k .sent ≡ 0)
       → Links N R (acted (sentOf N R t l k (inState st (rows N t k)) Out)) (done (put run (suc k) (parting (stateOf st) (run (suc k)))))
   unfolding inState withState withDecision parting published.inState runOf runBy benchOf
   parts k h st quiet h₃ abstained =
@@ -87,15 +87,15 @@ module _ (N R : ℕ) (hR : 1 ≤ R) (t l : List (List ℕ)) (s : Sound N R t l) 
       let new = eqb-true (rows N t k .state) 0 e₃ in
       all-hold N R t l s _ _ (parts k h 3 (s .ok .fit k .live (omega arith) .0) (omega arith) (λ p. s .ok .fit k .fresh new))
 
-  out-is : (k : ℕ) → hasOut (run (suc k) .sent) ≡ eqb (rows N t k .out) 1
+  out-is : (k : ℕ) → hasOut (run (suc k) .sent) ≡ eqb (rows N t k .silent) 1
   unfolding runOf runBy benchOf
-  out-is k = line-out R (logs l k) (rows N t k .sent) (eqb (rows N t k .out) 1)
+  out-is k = line-out R (logs l k) (rows N t k .sent) (eqb (rows N t k .silent) 1)
 
   -- OUT is sent if it has not been yet
-  leaves : (k : ℕ) → k < N → Links N R (acted (cond (eqb (rows N t k .out) 1) (stored N t l k (inState 4 (rows N t k))) (sentOf N R t l k (inState 4 (rows N t k)) Out)))
+  leaves : (k : ℕ) → k < N → Links N R (acted (cond (eqb (rows N t k .silent) 1) (stored N t l k (inState 4 (rows N t k))) (sentOf N R t l k (inState 4 (rows N t k)) Out)))
       (done (put run (suc k) (leaving (run (suc k)))))
   unfolding leaving stateOf
-  leaves k h = split (eqb (rows N t k .out) 1)
+  leaves k h = split (eqb (rows N t k .silent) 1)
       (λ o. rw (o, out-is k ∙ o) (goes-quietly N R t l s k h 4 (omega arith)))
       (λ o. rw (o, out-is k ∙ o) (parts k h 4 o (omega arith) (λ p. absurd (omega arith))))
 

@@ -18,7 +18,7 @@ use Rattle.common.specs.Checks.{needs, judge}
 use Rattle.common.proofs.Tests.{split, clash}
 use Rattle.common.proofs.Updates.{put-ind, put-other}
 use Rattle.bench.specs.declared.Bench.{Bench}
-use Rattle.bench.specs.Sets.{has}
+use Rattle.common.specs.Places.{has}
 use Rattle.bench.specs.Changes.{takenOf, outOf, takeOf}
 use Rattle.tables.specs.Rows.{rows, logs}
 use Rattle.tables.specs.Lines.{waitingOf}
@@ -26,7 +26,7 @@ use Rattle.tables.specs.Steps.{acted, stored, takeNext, nextOn}
 use Rattle.tables.specs.Runs.{roundsOf, lineOf, takenBy, benchOf, runBy, runOf}
 use Rattle.tables.specs.Sound.{Sound}
 use Rattle.tables.specs.Meets.{Links}
-use Rattle.tables.proofs.Sets.{joined-same, joined-other}
+use Rattle.common.proofs.Sets.{joined-same, joined-other}
 use Rattle.tables.proofs.Lines.{at, keeps-all, line-length, drop-rounds, ahead}
 use Rattle.tables.proofs.Change.{bench-path, Becomes, remains, refused-links}
 
@@ -107,7 +107,7 @@ module _ (N R : ℕ) (t l : List (List ℕ)) (s : Sound N R t l) (k j : ℕ) (hk
 
   -- ---- OUT is taken
 
-  out-becomes : n ≡ c .sent → eqb (c .out) 1 ≡ true → Becomes N R (rows N t) (logs l) k (outOf b j) (logs l k)
+  out-becomes : n ≡ c .sent → eqb (c .silent) 1 ≡ true → Becomes N R (rows N t) (logs l) k (outOf b j) (logs l k)
   unfolding outOf
   out-becomes h g = let f = s .ok .fit k in record {
     size = s .places k hk;
@@ -135,7 +135,7 @@ module _ (N R : ℕ) (t l : List (List ℕ)) (s : Sound N R t l) (k j : ℕ) (hk
   unfolding lineOf
   longer-out o = rw (joined-same (b .outs) j, o, append-nil) refl
 
-  takes-out : n ≡ c .sent → eqb (c .out) 1 ≡ true → has (b .outs) j ≡ false
+  takes-out : n ≡ c .sent → eqb (c .silent) 1 ≡ true → has (b .outs) j ≡ false
       → Links N R (acted (stored N t l k (outOf b j))) (done (put run (suc k) (taking (suc j) Out (run (suc k)))))
   unfolding outOf taking benchOf runOf runBy
   takes-out h g o = remains N R t l s k hk (outOf b j) (out-becomes h g) _
@@ -144,7 +144,7 @@ module _ (N R : ℕ) (t l : List (List ℕ)) (s : Sound N R t l) (k j : ℕ) (hk
   -- ---- what waits on the line
 
   abbrev rest : List Message
-  rest = drop (length (lineOf R log n (has (b .outs) j))) (lineOf R log (c .sent) (eqb (c .out) 1))
+  rest = drop (length (lineOf R log n (has (b .outs) j))) (lineOf R log (c .sent) (eqb (c .silent) 1))
 
   rest-is : waiting run (suc k) (suc j) ≡ rest
   unfolding waiting runOf runBy benchOf takenBy
@@ -153,17 +153,17 @@ module _ (N R : ℕ) (t l : List (List ℕ)) (s : Sound N R t l) (k j : ℕ) (hk
   rest-round : n < c .sent → has (b .outs) j ≡ false → (q : List Message) × (rest ≡ at R log n ∷ q)
   unfolding lineOf
   rest-round h o =
-      let a = ahead R log n (c .sent) (cond (eqb (c .out) 1) (Out ∷ []) []) h in
+      let a = ahead R log n (c .sent) (cond (eqb (c .silent) 1) (Out ∷ []) []) h in
       (a .0, rw (o, line-length R log n) (a .1))
 
-  rest-out : n ≡ c .sent → eqb (c .out) 1 ≡ true → has (b .outs) j ≡ false → rest ≡ Out ∷ []
+  rest-out : n ≡ c .sent → eqb (c .silent) 1 ≡ true → has (b .outs) j ≡ false → rest ≡ Out ∷ []
   unfolding lineOf
   rest-out q g o = rw (o, g, line-length R log n, ← q) (drop-rounds R log n (Out ∷ []))
 
-  rest-all : n ≡ c .sent → eqb (c .out) 1 ≡ true → has (b .outs) j ≡ true → rest ≡ []
+  rest-all : n ≡ c .sent → eqb (c .silent) 1 ≡ true → has (b .outs) j ≡ true → rest ≡ []
   rest-all q g o = rw (o, g, q) (drop-of-length-le (lineOf R log (c .sent) true) {i = length (lineOf R log (c .sent) true)} (le-refl _))
 
-  rest-none : n ≡ c .sent → eqb (c .out) 1 ≡ false → has (b .outs) j ≡ false → rest ≡ []
+  rest-none : n ≡ c .sent → eqb (c .silent) 1 ≡ false → has (b .outs) j ≡ false → rest ≡ []
   unfolding lineOf
   rest-none q g o = rw (o, g, line-length R log n, ← q) (drop-rounds R log n [])
 
@@ -176,7 +176,7 @@ module _ (N R : ℕ) (t l : List (List ℕ)) (s : Sound N R t l) (k j : ℕ) (hk
       (λ e. let h = ltb-true n (c .sent) e in split (has (b .outs) j)
       (λ o. absurd (omega (arith, s .ok .end k j o .1)))
       (λ o. let w = rest-round h o in rw (e, lt-ltb n R (omega (arith, s .ok .fit j .top)), rest-is ∙ w .1, add-one) (takes-round h o)))
-      (λ e. let h = ltb-false n (c .sent) e in let q : n ≡ c .sent = omega (arith, s .ok .line k j) in split (eqb (c .out) 1)
+      (λ e. let h = ltb-false n (c .sent) e in let q : n ≡ c .sent = omega (arith, s .ok .line k j) in split (eqb (c .silent) 1)
       (λ g. split (has (b .outs) j)
       (λ o. rw (e, g, o, rest-is ∙ rest-all q g o) (refused-links N R t l s 8))
       (λ o. rw (e, g, o, rest-is ∙ rest-out q g o) (takes-out q g o)))

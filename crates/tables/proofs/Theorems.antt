@@ -20,7 +20,7 @@ use Rattle.tables.specs.Runs.{runOf}
 use Rattle.tables.specs.Sound.{Sound}
 use Rattle.tables.specs.Meets.{Links, Meets}
 use Rattle.tables.specs.Accepted.{Accepted}
-use Rattle.tables.proofs.Lines.{Keeps}
+use Rattle.tables.proofs.Lines.{KeepsRounds}
 use Rattle.tables.proofs.Steps.{links}
 use Rattle.tables.proofs.Empty as empty
 use Rattle.tables.proofs.Meeting.{empty-meet}
@@ -102,7 +102,7 @@ acts-settle e r r′ t t′ l l′ p q = (p .answer ∙ sym (q .answer), p .benc
 
 -- A turn depends on the bench's own row and on the log entries that it has taken, in all tables that can be handed in.
 pub turn-local : (N R : ℕ) (t l t′ l′ : List (List ℕ)) (k : ℕ) → getD t k [] ≡ getD t′ k []
-    → ((j : ℕ) → j < N → Keeps R (logs l j) (logs l′ j) (getD (rows N t k .taken) j 0))
+    → ((j : ℕ) → j < N → KeepsRounds R (logs l j) (logs l′ j) (getD (rows N t k .taken) j 0))
     → turnOf N R (rows N t k) (heardOf N R l (rows N t k)) ≡ turnOf N R (rows N t′ k) (heardOf N R l′ (rows N t′ k))
 turn-local N R t l t′ l′ k e same = rw (← e, heard-local N R (rows N t k) l l′ same) refl
 

@@ -18,7 +18,7 @@ use Rattle.common.proofs.Tests.{split}
 use Rattle.bench.specs.declared.Bench.{Bench}
 use Rattle.bench.specs.declared.Heard.{Heard}
 use Rattle.bench.specs.declared.Turned.{Turned}
-use Rattle.bench.specs.Sets.{has}
+use Rattle.common.specs.Places.{has}
 use Rattle.bench.specs.Changes.{choosing, inRound}
 use Rattle.bench.specs.Turns.{awaitsOf, forbidsOf, least, gatherOf, refuses, goOnOf, concludes, turnOf}
 use Rattle.tables.specs.Rows.{rows, logs}

@@ -20,7 +20,7 @@ readRow N l =
       outs = getD l 4 0;
       noticed = getD l 5 0;
       sent = getD l 6 0;
-      out = getD l 7 0;
+      silent = getD l 7 0;
       chose = getD l 8 0;
       taken = from l 9 N;
     }
@@ -30,7 +30,7 @@ ofRow N l = readRow N l
 
 unfoldable pub rowOf : ℕ → Bench → List ℕ
 rowOf N b =
-    b .state ∷ b .round .0 ∷ b .value .0 ∷ b .world ∷ b .outs ∷ b .noticed ∷ b .sent ∷ b .out ∷ b .chose ∷ from (b .taken) 0 N
+    b .state ∷ b .round .0 ∷ b .value .0 ∷ b .world ∷ b .outs ∷ b .noticed ∷ b .sent ∷ b .silent ∷ b .chose ∷ from (b .taken) 0 N
 
 -- the bench at place k of a table, and the log at place k
 abbrev pub rows : ℕ → List (List ℕ) → ℕ → Bench

@@ -7,7 +7,7 @@ use lib.ListN.{getD}
 use Rattle.published.specs.Rounds as published
 use Rattle.published.specs.Rounds.{Message, Round, Out, State, fresh, running, decided, abstained, left, failed, Decision, none, chosen, Run, newBench}
 use Rattle.bench.specs.declared.Bench.{Bench}
-use Rattle.bench.specs.Sets.{has}
+use Rattle.common.specs.Places.{has}
 use Rattle.tables.specs.Rows.{rows, logs}
 
 -- a log's messages of rounds 1 to n
@@ -46,7 +46,7 @@ benchOf R L k b =
       round = b .round .0;
       value = b .value .0;
       world = b .world;
-      sent = lineOf R (L k) (b .sent) (eqb (b .out) 1);
+      sent = lineOf R (L k) (b .sent) (eqb (b .silent) 1);
       taken = takenBy R L k b;
       noticed = noticedBy (b .noticed);
       decision = decisionOf (b .chose) (b .value .0);

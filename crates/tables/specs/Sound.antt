@@ -7,7 +7,7 @@ use Prim.Native.Nat.{ℕ, _+_, _^_, _≤_, _<_}
 use lib.Dec.{eqb}
 use lib.ListN.{getD, length}
 use Rattle.bench.specs.declared.Bench.{Bench}
-use Rattle.bench.specs.Sets.{has}
+use Rattle.common.specs.Places.{has}
 use Rattle.tables.specs.Rows.{rows, logs}
 
 -- one bench by itself
@@ -16,7 +16,7 @@ pub record Fit (N R : ℕ) (b : Bench) : Type 0 where
   pub size : length (b .taken) ≡ N
   pub top : b .sent ≤ R
   -- fresh or running: it has neither sent OUT nor decided
-  pub live : b .state ≤ 1 → (eqb (b .out) 1 ≡ false) × (eqb (b .chose) 1 ≡ false)
+  pub live : b .state ≤ 1 → (eqb (b .silent) 1 ≡ false) × (eqb (b .chose) 1 ≡ false)
   -- fresh: it has sent nothing
   pub fresh : b .state ≡ 0 → b .sent ≡ 0
   -- running: its round is the last that it sent, and its world names no bench above N
@@ -31,10 +31,10 @@ pub record Ok (N R : ℕ) (B : ℕ → Bench) (L : ℕ → List ℕ) : Type 0 wh
   pub fit : (k : ℕ) → Fit N R (B k)
   -- a bench has taken its own messages
   pub own : (k : ℕ) → getD (B k .taken) k 0 ≡ B k .sent
-  pub own-out : (k : ℕ) → has (B k .outs) k ≡ eqb (B k .out) 1
+  pub own-out : (k : ℕ) → has (B k .outs) k ≡ eqb (B k .silent) 1
   -- nothing is taken that was not sent, and OUT is the last
   pub line : (k j : ℕ) → getD (B k .taken) j 0 ≤ B j .sent
-  pub end : (k j : ℕ) → has (B k .outs) j ≡ true → (eqb (B j .out) 1 ≡ true) × (getD (B k .taken) j 0 ≡ B j .sent)
+  pub end : (k j : ℕ) → has (B k .outs) j ≡ true → (eqb (B j .silent) 1 ≡ true) × (getD (B k .taken) j 0 ≡ B j .sent)
   -- a world that was sent names no bench above N
   pub worlds : (k i : ℕ) → i < B k .sent → getD (L k) (i + R) 0 < 2 ^ N
 

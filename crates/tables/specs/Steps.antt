@@ -15,7 +15,7 @@ use Rattle.bench.specs.declared.Waiting.the-variants.{Next, Nothing}
 use Rattle.bench.specs.declared.Turned.{Turned}
 use Rattle.bench.specs.declared.Answer.{Answer}
 use Rattle.bench.specs.declared.Answer.the-variants.{Decided, Went, Refused}
-use Rattle.bench.specs.Sets.{has, some}
+use Rattle.common.specs.Places.{has, some}
 use Rattle.bench.specs.Changes.{takeOf, noticeOf, inState, inRound, sentTo, sentOut}
 use Rattle.bench.specs.Turns.{turnOf}
 use Rattle.tables.specs.Rows.{rowOf, rows, logs}
@@ -59,26 +59,26 @@ sentOf N R t l k b Out = stored N t l k (sentOut (takeOf b k Out))
 -- ---- the steps at place k, and from place j
 
 -- bench j is running or decided, and not in the world
-unfoldable pub leftOutAt : List (List ℕ) → ℕ → ℕ → Bool
-leftOutAt t w j = (eqb (getD (getD t j []) 0 0) 1 || eqb (getD (getD t j []) 0 0) 2) && not (has w j)
+unfoldable pub lacksAt : List (List ℕ) → ℕ → ℕ → Bool
+lacksAt t w j = (eqb (getD (getD t j []) 0 0) 1 || eqb (getD (getD t j []) 0 0) 2) && not (has w j)
 
-unfoldable pub leavesOut : ℕ → List (List ℕ) → ℕ → Bool
-leavesOut N t w = some (leftOutAt t w) N
+unfoldable pub lacksOne : ℕ → List (List ℕ) → ℕ → Bool
+lacksOne N t w = some (lacksAt t w) N
 
 -- bench j ever started, with a world without bench k
-unfoldable pub shutOutAt : ℕ → List (List ℕ) → List (List ℕ) → ℕ → ℕ → Bool
-shutOutAt R t l k j = ltb 0 (getD (getD t j []) 6 0) && not (has (getD (getD l j []) R 0) k)
+unfoldable pub lackedAt : ℕ → List (List ℕ) → List (List ℕ) → ℕ → ℕ → Bool
+lackedAt R t l k j = ltb 0 (getD (getD t j []) 6 0) && not (has (getD (getD l j []) R 0) k)
 
-unfoldable pub shutsOut : ℕ → ℕ → List (List ℕ) → List (List ℕ) → ℕ → Bool
-shutsOut N R t l k = some (shutOutAt R t l k) N
+unfoldable pub lackedByOne : ℕ → ℕ → List (List ℕ) → List (List ℕ) → ℕ → Bool
+lackedByOne N R t l k = some (lackedAt R t l k) N
 
 unfoldable pub startAt : ℕ → ℕ → List (List ℕ) → List (List ℕ) → ℕ → ℕ → ℕ → Act
 startAt N R t l v w k =
     cond (eqb (rows N t k .state) 0)
     (cond (ltb 65535 v) (refused 4 t l)
     (cond (ltb w (2 ^ N) && has w k)
-    (cond (leavesOut N t w) (refused 6 t l)
-    (cond (shutsOut N R t l k) (refused 7 t l)
+    (cond (lacksOne N t w) (refused 6 t l)
+    (cond (lackedByOne N R t l k) (refused 7 t l)
     (acted (sentOf N R t l k (inRound 1 (record { 0 = v }) w (rows N t k)) (message 1 v w)))))
     (refused 5 t l)))
     (refused 3 t l)
@@ -89,7 +89,7 @@ abstainAt N R t l k = cond (eqb (rows N t k .state) 0) (acted (sentOf N R t l k 
 unfoldable pub leaveAt : ℕ → ℕ → List (List ℕ) → List (List ℕ) → ℕ → Act
 leaveAt N R t l k =
     cond (ltb 3 (rows N t k .state)) (refused 3 t l)
-    (acted (cond (eqb (rows N t k .out) 1) (stored N t l k (inState 4 (rows N t k))) (sentOf N R t l k (inState 4 (rows N t k)) Out)))
+    (acted (cond (eqb (rows N t k .silent) 1) (stored N t l k (inState 4 (rows N t k))) (sentOf N R t l k (inState 4 (rows N t k)) Out)))
 
 unfoldable pub failAt : ℕ → List (List ℕ) → List (List ℕ) → ℕ → Act
 failAt N t l k = cond (ltb 3 (rows N t k .state)) (refused 3 t l) (acted (stored N t l k (inState 5 (rows N t k))))
@@ -111,7 +111,7 @@ takeNext N t l k j Nothing = refused 8 t l
 
 -- what waits for bench k on the line from bench j
 unfoldable pub nextOn : ℕ → ℕ → List (List ℕ) → List (List ℕ) → ℕ → ℕ → Waiting
-nextOn N R t l k j = waitingOf R (logs l j) (getD (rows N t k .taken) j 0) (has (rows N t k .outs) j) (rows N t j .sent) (rows N t j .out)
+nextOn N R t l k j = waitingOf R (logs l j) (getD (rows N t k .taken) j 0) (has (rows N t k .outs) j) (rows N t j .sent) (rows N t j .silent)
 
 unfoldable pub arriveAt : ℕ → ℕ → List (List ℕ) → List (List ℕ) → ℕ → ℕ → Act
 arriveAt N R t l k j =

@@ -1,6 +1,6 @@
 -- `abstain`: from the bench to its place.
 use Rattle.tables.specs.Steps.{tableStep}
-use Rattle.rounds.proofs.Numbers.{known, at-none, at-place}
+use Rattle.rounds.proofs.Numbers.{at-none, at-place}
 use borrow.Author.Needs.{needs}
 use Rattle.rounds.proofs.abstain.Statement.{statement}
 use Rattle.rounds.proofs.abstain.Tie as tie
@@ -13,7 +13,7 @@ unfolding tableStep
 returns c = search at-none
 
 place-requires : tie.Need-place-requires
-place-requires c κs = search known
+place-requires c κs = search needs
 
 abstain-at-requires : tie.Need-abstain-at-requires
 abstain-at-requires c κs = search needs

@@ -1,6 +1,6 @@
 -- `notice`: from the benches to their places.
 use Rattle.tables.specs.Steps.{tableStep}
-use Rattle.rounds.proofs.Numbers.{known, between-none, between-other, between-same, between-places}
+use Rattle.rounds.proofs.Numbers.{between-none, between-other, between-same, between-places}
 use borrow.Author.Needs.{needs}
 use Rattle.rounds.proofs.notice.Statement.{statement}
 use Rattle.rounds.proofs.notice.Tie as tie
@@ -24,10 +24,10 @@ unfolding tableStep
 returns-3 c = search between-same
 
 place-requires : tie.Need-place-requires
-place-requires c κs = search known
+place-requires c κs = search needs
 
 place-requires-2 : tie.Need-place-requires-2
-place-requires-2 c κs = search known
+place-requires-2 c κs = search needs
 
 notice-at-requires : tie.Need-notice-at-requires
 notice-at-requires c κs = search needs

@@ -3,9 +3,9 @@ use borrow.Author.Needs.{needs}
 use mathlib.Core.Path.{_≡_, refl}
 use mathlib.Core.Bool.{false}
 use Prim.Native.Nat.{_≤_, _-_}
-use Rattle.bench.specs.Sets.{some}
+use Rattle.common.specs.Places.{some}
 use Rattle.bench.specs.Turns.{forbidsAt, forbidsOf}
-use Rattle.bench.proofs.Members.{some-found, some-passed, some-none}
+use Rattle.common.proofs.Places.{some-found, some-passed, some-none}
 use Rattle.bench.proofs.Visits.{forbids-heard}
 use Rattle.bench.proofs.Bench.forbids.Statement.{statement}
 use Rattle.bench.proofs.Bench.forbids.Tie as tie

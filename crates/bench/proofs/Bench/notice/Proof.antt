@@ -1,5 +1,6 @@
 -- `Bench::notice`: by whether there is such a bench.
-use Rattle.bench.proofs.Numbers.{bench-first, bench-place, known, notice-known, notice-unknown}
+use Rattle.sets.proofs.Numbers.{bench-first, bench-place}
+use Rattle.bench.proofs.Numbers.{known, notice-known, notice-unknown}
 use borrow.Author.Needs.{needs}
 use Rattle.bench.proofs.Bench.notice.Statement.{statement}
 use Rattle.bench.proofs.Bench.notice.Tie as tie

@@ -1,6 +1,6 @@
 -- `Bench::notice_at`: one more place in the set.
 use Rattle.bench.specs.Changes.{noticeOf}
-use Rattle.bench.proofs.Members.{only-small}
+use Rattle.common.proofs.Places.{only-small}
 use borrow.Author.Needs.{needs}
 use Rattle.bench.proofs.Bench.notice_at.Statement.{statement}
 use Rattle.bench.proofs.Bench.notice_at.Tie as tie

@@ -1,5 +1,6 @@
 -- `Bench::take`: by whether there is such a bench.
-use Rattle.bench.proofs.Numbers.{bench-first, bench-place, known, take-known, take-unknown}
+use Rattle.sets.proofs.Numbers.{bench-first, bench-place}
+use Rattle.bench.proofs.Numbers.{known, take-known, take-unknown}
 use borrow.Author.Needs.{needs}
 use Rattle.bench.proofs.Bench.take.Statement.{statement}
 use Rattle.bench.proofs.Bench.take.Tie as tie

@@ -1,6 +1,6 @@
 -- `Bench::take_at`: by the kind of message.
 use Rattle.bench.specs.Changes.{takeOf, takenOf, outOf}
-use Rattle.bench.proofs.Members.{only-small}
+use Rattle.common.proofs.Places.{only-small}
 use borrow.Author.Needs.{needs}
 use Rattle.bench.proofs.Bench.take_at.Statement.{statement}
 use Rattle.bench.proofs.Bench.take_at.Tie as tie

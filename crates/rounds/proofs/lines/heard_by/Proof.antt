@@ -3,7 +3,7 @@ use borrow.Author.Needs.{needs}
 use mathlib.Core.Path.{_≡_, refl, _∙_}
 use mathlib.Core.Logic.{⊎-elim}
 use Prim.Native.Nat.{_≤_, _-_}
-use Rattle.bench.proofs.Members.{only-small}
+use Rattle.common.proofs.Places.{only-small}
 use Rattle.tables.specs.Rows.{rows}
 use Rattle.tables.specs.Lines.{withMessage, heardTo}
 use Rattle.rounds.proofs.Hearing.{heard-before, heard-past, heard-all, heard-more, heard-same}

@@ -22,14 +22,14 @@ has-requires c κs = search needs
 returns-4 : tie.Need-returns-4
 returns-4 c = search start-alien
 
-leaves-out-requires : tie.Need-leaves-out-requires
-leaves-out-requires c κs = search needs
+lacks-one-requires : tie.Need-lacks-one-requires
+lacks-one-requires c κs = search needs
 
 returns-5 : tie.Need-returns-5
 returns-5 c = search start-leaves
 
-shuts-out-requires : tie.Need-shuts-out-requires
-shuts-out-requires c κs = search needs
+lacked-by-one-requires : tie.Need-lacked-by-one-requires
+lacked-by-one-requires c κs = search needs
 
 returns-6 : tie.Need-returns-6
 returns-6 c =
@@ -39,7 +39,7 @@ returns-6 c =
     let slot = below .before in
     let fresh = slot .before .before in
     start-shut _ _ _ _ _ _ (fresh .before .state-at .ensures) (fresh .if1 .left) (slot .if2 .left) (below .if3 .left) _ (inside .before .has .ensures) (inside .if4 .left)
-    _ (whole .before .leaves-out .ensures) (whole .if5 .left) _ (c .before .shuts-out .ensures) (c .if6 .taken)
+    _ (whole .before .lacks-one .ensures) (whole .if5 .left) _ (c .before .lacked-by-one .ensures) (c .if6 .taken)
 
 begin-requires : tie.Need-begin-requires
 begin-requires c κs = search needs
@@ -57,9 +57,9 @@ start-at-spec =
     returns-3
     has-requires
     returns-4
-    leaves-out-requires
+    lacks-one-requires
     returns-5
-    shuts-out-requires
+    lacked-by-one-requires
     returns-6
     begin-requires
     returns-7)

@@ -1,6 +1,6 @@
-use Rattle.rounds.specs.declared.Decision.the-variants.{None, Chosen}
+use Rattle.reads.specs.declared.Decision.the-variants.{None, Chosen}
 use Rattle.run_report.proofs.BenchLines.{value-put}
-use Rattle.rounds.specs.Decisions.{decisionIs}
+use Rattle.reads.specs.Decisions.{decisionIs}
 use Rattle.run_report.specs.Report.{valueText}
 use borrow.Author.Needs.{needs}
 use Rattle.run_report.proofs.benches.put_value.Statement.{statement}

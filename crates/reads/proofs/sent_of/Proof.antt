@@ -1,0 +1,38 @@
+-- `sent_of`: by whether there is such a bench.
+use Rattle.reads.proofs.Reading.{no-sent, has-sent}
+use borrow.Author.Needs.{needs}
+use Rattle.reads.proofs.sent_of.Statement.{statement}
+use Rattle.reads.proofs.sent_of.Tie as tie
+
+is-bench-requires : tie.Need-is-bench-requires
+is-bench-requires c κs = search needs
+
+returns : tie.Need-returns
+returns c = search no-sent
+
+place-requires : tie.Need-place-requires
+place-requires c κs = search needs
+
+mul-result : tie.Need-mul-result
+mul-result c = search needs
+
+index-1-result : tie.Need-index-1-result
+index-1-result c = search needs
+
+index-2-result : tie.Need-index-2-result
+index-2-result c = search needs
+
+returns-2 : tie.Need-returns-2
+returns-2 c = search has-sent
+
+pub sent-of-spec : {M : Type 1} → statement M
+sent-of-spec =
+    tie.close
+    (tie.spec
+    is-bench-requires
+    returns
+    place-requires
+    mul-result
+    index-1-result
+    index-2-result
+    returns-2)
