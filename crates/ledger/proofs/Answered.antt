@@ -22,7 +22,8 @@ use Rattle.ledger.specs.declared.Ledger.{Ledger}
 use Rattle.ledger.specs.declared.Told.{Told}
 use Rattle.book.specs.Book as book
 use Rattle.book.specs.Book.{Sweep, Row, hasJoined, isOpen, firstSlot, openSlot, Book, withRow, swept, cut, Step, join, sweep, close, end, Answer, answer, checks, after, step}
-use Rattle.ledger.specs.Seen.{rowIs, rowsOf, sweepIs, heldIn, bookOf}
+use Rattle.senders.specs.Rows.{rowIs}
+use Rattle.ledger.specs.Seen.{rowsOf, sweepIs, heldIn, bookOf}
 use Rattle.ledger.specs.Words.{Knows, TakesOut}
 use Rattle.ledger.specs.Promises.{Tells, movesHeld}
 use Rattle.ledger.proofs.Seating.{rows-set}

@@ -11,11 +11,12 @@ use borrow.Author.Tests.{not-true, not-false}
 use Rattle.common.specs.Benches.{every}
 use Rattle.common.proofs.Tests.{split}
 use Rattle.common.proofs.Benches.{every-next, every-get}
-use Rattle.ledger.specs.declared.Row.{Row}
+use Rattle.senders.specs.declared.Row.{Row}
 use Rattle.ledger.specs.declared.Seat.{Seat}
 use Rattle.book.specs.Book as book
 use Rattle.book.specs.Book.{isMember, openSlot, mayGo}
-use Rattle.ledger.specs.Seen.{rowIs, rowsOf}
+use Rattle.senders.specs.Rows.{rowIs}
+use Rattle.ledger.specs.Seen.{rowsOf}
 use Rattle.ledger.proofs.Seating.{nobody}
 
 -- it is no member of slot k, or has closed it

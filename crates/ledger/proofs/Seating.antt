@@ -12,10 +12,11 @@ use Rattle.common.specs.Benches.{isBench}
 use Rattle.common.specs.Updates.{put}
 use Rattle.common.proofs.Tests.{both, split}
 use Rattle.common.proofs.Updates.{put-ind}
-use Rattle.ledger.specs.declared.Row.the-variants.{Unknown}
+use Rattle.senders.specs.declared.Row.the-variants.{Unknown}
 use Rattle.ledger.specs.declared.Seat.{Seat}
 use Rattle.book.specs.Book as book
-use Rattle.ledger.specs.Seen.{rowIs, rowsOf}
+use Rattle.senders.specs.Rows.{rowIs}
+use Rattle.ledger.specs.Seen.{rowsOf}
 
 pub bench-range : (s : ℕ) → isBench 16 s ≡ true → (1 ≤ s) × (s ≤ 16)
 unfolding isBench

@@ -10,15 +10,16 @@ use lib.Seq.{ext-getD}
 use lib.Dec.{eqb}
 use Rattle.common.proofs.Tests.{clash}
 use Rattle.kinds.specs.declared.SlotNo.{SlotNo}
-use Rattle.ledger.specs.declared.Row.{Row}
-use Rattle.ledger.specs.declared.Row.the-variants.{Unknown, Joined, Ended}
+use Rattle.senders.specs.declared.Row.{Row}
+use Rattle.senders.specs.declared.Row.the-variants.{Unknown, Joined, Ended}
 use Rattle.ledger.specs.declared.Seat.{Seat}
 use Rattle.ledger.specs.declared.Ledger.{Ledger}
 use Rattle.ledger.specs.declared.Told.{Told}
 use Rattle.ledger.specs.declared.Handed.{Handed}
 use Rattle.book.specs.Book as book
 use Rattle.book.specs.Book.{Book, Step, handOut, step}
-use Rattle.ledger.specs.Seen.{rowIs, rowsOf, heldIn, bookOf}
+use Rattle.senders.specs.Rows.{rowIs}
+use Rattle.ledger.specs.Seen.{rowsOf, heldIn, bookOf}
 use Rattle.ledger.specs.Promises.{movesHeld, Tells, Hands, Begins}
 use Rattle.ledger.proofs.Packing.{same-words}
 use Rattle.ledger.proofs.Seating.{nobody}

@@ -3,16 +3,12 @@
 use Prim.Native.Nat.{ℕ, zero, suc, _/_, _%_}
 use mathlib.Core.List.{List, map}
 use lib.ListN.{getD, take}
-use Rattle.ledger.specs.declared.Row.{Row}
-use Rattle.ledger.specs.declared.Row.the-variants.{Unknown, Joined, Ended}
+use Rattle.senders.specs.declared.Row.{Row}
+use Rattle.senders.specs.declared.Row.the-variants.{Unknown}
 use Rattle.ledger.specs.declared.Seat.{Seat}
 use Rattle.ledger.specs.declared.Ledger.{Ledger}
 use Rattle.book.specs.Book as book
-
-unfoldable pub rowIs : Row → book.Row
-rowIs Unknown = book.unknown
-rowIs (Joined f o) = book.joined (f .0) (o .0)
-rowIs (Ended f o e) = book.ended (f .0) (o .0) (e .0)
+use Rattle.senders.specs.Rows.{rowIs}
 
 -- seat i is sender i + 1
 unfoldable pub rowsOf : List Seat → ℕ → book.Row

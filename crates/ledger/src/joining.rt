@@ -4,18 +4,21 @@ ghost use mathlib.Core.Path.{_≡_};
 ghost use mathlib.Core.List.{List};
 ghost use Prim.Native.Nat.{ℕ, _≤_};
 ghost use Rattle.book.specs.Book.{Book, join, close, step, openSlot};
-ghost use Rattle.ledger.specs.Seen.{rowIs, rowsOf};
+ghost use Rattle.senders.specs.Rows.{rowIs};
+ghost use Rattle.ledger.specs.Seen.{rowsOf};
 ghost use Rattle.ledger.specs.Promises.{Tells, Begins};
 ghost use Rattle.ledger.specs.Words.{Knows};
 use crate::Cursor;
 use crate::Ledger;
-use crate::Row;
 use crate::Seat;
 use crate::Told;
 use crate::rows;
 use kinds::AnswerNo;
 use kinds::BenchNo;
 use kinds::SlotNo;
+use senders::Row;
+use sets::is_bench;
+use sets::place;
 
 // A ledger that begins at a slot: nobody has joined, and nothing is held. Document 01's begins at 0.
 pub fn new(begin: SlotNo) -> Ledger
@@ -35,10 +38,10 @@ pub fn new(begin: SlotNo) -> Ledger
 pub fn row_of(ledger: Ledger, sender: BenchNo) -> Row
     ensures { λ r. ⌜ rowIs r ≡ rowsOf (ledger .seats) (sender .0) ⌝ }
 {
-    if !rows::is_sender(sender) {
+    if !is_bench(sender) {
         return Row::Unknown;
     }
-    let i = rows::place_of(sender);
+    let i = place(sender);
     rows::row_at(ledger, i)
 }
 
@@ -47,7 +50,7 @@ pub fn join(ledger: Ledger, sender: BenchNo, first: SlotNo) -> Told
     ensures { λ r. ⌜ ((words : List ℕ) → Tells ledger words (join (sender .0) (first .0)) r words) ⌝ }
 {
     let mut after = ledger;
-    let i = rows::place_of(sender);
+    let i = place(sender);
     let seat = after.seats[i];
     let known = seat.row;
     let next = after.cursor.next;
@@ -69,10 +72,10 @@ pub fn join(ledger: Ledger, sender: BenchNo, first: SlotNo) -> Told
 fn join_number(sender: BenchNo, row: Row, next: SlotNo, first: SlotNo) -> AnswerNo
     ensures { λ r. ⌜ ((b : Book) → b .next ≡ next .0 → Knows b (sender .0) (rowIs row) → r ≡ step 16 b (join (sender .0) (first .0)) .number) ⌝ }
 {
-    if !rows::is_sender(sender) {
+    if !is_bench(sender) {
         return 1;
     }
-    if rows::has_joined(row) {
+    if senders::has_joined(row) {
         return 13;
     }
     if first.0 < next.0 {
@@ -89,7 +92,7 @@ pub fn close(ledger: Ledger, sender: BenchNo) -> Told
     ensures { λ r. ⌜ ((words : List ℕ) → Tells ledger words (close (sender .0)) r words) ⌝ }
 {
     let mut after = ledger;
-    let i = rows::place_of(sender);
+    let i = place(sender);
     let seat = after.seats[i];
     let known = seat.row;
     let number = close_number(sender, known);
@@ -107,13 +110,13 @@ pub fn close(ledger: Ledger, sender: BenchNo) -> Told
 fn close_number(sender: BenchNo, row: Row) -> AnswerNo
     ensures { λ r. ⌜ ((b : Book) → Knows b (sender .0) (rowIs row) → r ≡ step 16 b (close (sender .0)) .number) × (r ≡ 0 → openSlot (rowIs row) ≤ 65534) ⌝ }
 {
-    if !rows::is_sender(sender) {
+    if !is_bench(sender) {
         return 1;
     }
-    if !rows::is_open(row) {
+    if !senders::is_open(row) {
         return 15;
     }
-    let open = rows::open_slot(row);
+    let open = senders::open_slot(row);
     if 65534 < open.0 {
         return 17;
     }

@@ -2,6 +2,7 @@
 // is lent. specs/Book.antt says what each step does, specs/Seen.antt which book a ledger and its room are, specs/Promises.antt what is promised.
 use kinds::AnswerNo;
 use kinds::SlotNo;
+pub use senders::Row;
 
 mod joining; // joining.rt: a new ledger, join and close
 mod sweeping; // sweeping.rt: sweep and end
@@ -23,20 +24,6 @@ pub use sweeping::sweep;
 pub struct Cursor {
     pub next: SlotNo,
     pub held: usize,
-}
-
-// What the ledger knows of a sender.
-pub enum Row {
-    Unknown,
-    Joined {
-        first: SlotNo,
-        open: SlotNo,
-    },
-    Ended {
-        first: SlotNo,
-        open: SlotNo,
-        end: SlotNo,
-    },
 }
 
 // A row by itself, since a field cannot be an array of enums.

@@ -11,10 +11,10 @@ use Rattle.spelling.proofs.Decimals.{digits-length}
 use Rattle.spelling.proofs.Stores.{room-front, room-after, stored-nil, stored-then, stored-length}
 use Rattle.spelling.proofs.Puts.{Put, put-then, put-last}
 use Rattle.kinds.specs.declared.SlotNo.{SlotNo}
-use Rattle.ledger.specs.declared.Row as code
-use Rattle.ledger.specs.declared.Row.the-variants.{Unknown, Joined, Ended}
+use Rattle.senders.specs.declared.Row as code
+use Rattle.senders.specs.declared.Row.the-variants.{Unknown, Joined, Ended}
 use Rattle.book.specs.Book.{Row, unknown, joined, ended}
-use Rattle.ledger.specs.Seen.{rowIs}
+use Rattle.senders.specs.Rows.{rowIs}
 use Rattle.ledger_report.specs.Report.{slotsText, senderLine, senderLines}
 
 -- ---- no line is longer than 66 bytes

@@ -1,7 +1,7 @@
 -- Laws of bench numbers and their places: 1 to 16 are benches. Assumes nothing.
 use mathlib.Core.Path.{_≡_, refl, sym, _∙_}
 use mathlib.Core.Bool.{Bool, true, false, not}
-use Prim.Native.Nat.{ℕ, _-_, _<_, _≤_}
+use Prim.Native.Nat.{ℕ, suc, _-_, _<_, _≤_}
 use native.Mathlib.Omega.{arith}
 use lib.Dec.{leb}
 use borrow.Author.Tests.{le-leb, lt-leb, not-true, not-false}
@@ -37,3 +37,8 @@ module _ (f : ℕ) (q : Bool) (is-q : q ≡ isBench 16 f) where
   pub place-some : not q ≡ false → f - 1 ≡ placeOf 16 f
   unfolding placeOf
   place-some e = rw (known e) refl
+
+-- a bench stands right behind its place
+pub place-next : (b r : ℕ) → r ≡ placeOf 16 b → isBench 16 b ≡ true → suc r ≡ b
+unfolding placeOf
+place-next b r e h = let p : r ≡ b - 1 = e ∙ rw h refl in omega (arith, bench-first b h)

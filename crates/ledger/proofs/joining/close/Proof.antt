@@ -8,9 +8,10 @@ use Rattle.ledger.proofs.Answered.{tells-refused, knows, close-done}
 use borrow.Author.Needs.{needs}
 use Rattle.ledger.proofs.joining.close.Statement.{statement}
 use Rattle.ledger.proofs.joining.close.Tie as tie
+use Rattle.sets.proofs.Numbers.{place-next}
 
-place-of-requires : tie.Need-place-of-requires
-place-of-requires c κs = search needs
+place-requires : tie.Need-place-requires
+place-requires c κs = search needs
 
 mul-seat : tie.Need-mul-seat
 mul-seat c = search needs
@@ -34,24 +35,24 @@ returns : tie.Need-returns
 unfolding rowsOf
 returns c =
     let z = c .before .before .before .before .before .args in
-    let p = c .before .before .before .before .place-of in
-    let there : c .before .before .before .before .place-of .result < length (z .ledger .seats) = omega (arith, c .before .before .before .before .place-of .ensures, sym (length-map (z .ledger .seats) _) ∙ c .before .before .before .before .before .good .0 .1 .1 .1 .0 .1 .0 .1) in
-    λ words. close-done (z .ledger) words (z .sender .0) (p .result) (p .ensures .1) _ refl there _ (c .closed .ensures) _
-    (c .before .before .close-number .ensures .0 (bookOf (z .ledger) words) (knows (z .ledger) words (z .sender .0) (p .result) (p .ensures .1) _ refl)) (c .before .if1 .taken)
+    let p = c .before .before .before .before .place in
+    let there : c .before .before .before .before .place .result < length (z .ledger .seats) = omega (arith, c .before .before .before .before .place .ensures, sym (length-map (z .ledger .seats) _) ∙ c .before .before .before .before .before .good .0 .1 .1 .1 .0 .1 .0 .1) in
+    λ words. close-done (z .ledger) words (z .sender .0) (p .result) (place-next _ _ (p .ensures .0)) _ refl there _ (c .closed .ensures) _
+    (c .before .before .close-number .ensures .0 (bookOf (z .ledger) words) (knows (z .ledger) words (z .sender .0) (p .result) (place-next _ _ (p .ensures .0)) _ refl)) (c .before .if1 .taken)
 
 returns-2 : tie.Need-returns-2
 unfolding rowsOf
 returns-2 c =
     let z = c .before .before .before .before .args in
-    let p = c .before .before .before .place-of in
+    let p = c .before .before .before .place in
     λ words. tells-refused (z .ledger) words _ _
-    (c .before .close-number .ensures .0 (bookOf (z .ledger) words) (knows (z .ledger) words (z .sender .0) (p .result) (p .ensures .1) _ refl)) (c .if1 .left)
+    (c .before .close-number .ensures .0 (bookOf (z .ledger) words) (knows (z .ledger) words (z .sender .0) (p .result) (place-next _ _ (p .ensures .0)) _ refl)) (c .if1 .left)
 
 pub close-spec : {M : Type 1} → statement M
 close-spec =
     tie.close
     (tie.spec
-    place-of-requires
+    place-requires
     mul-seat
     element-copy-out-seat
     close-number-requires

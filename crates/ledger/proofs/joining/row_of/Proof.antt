@@ -3,15 +3,17 @@ use mathlib.Core.Path.{_≡_, ap, sym, _∙_}
 use Prim.Native.Nat.{ℕ}
 use lib.ListN.{length, length-map}
 use borrow.Author.Tests.{not-false}
-use Rattle.ledger.specs.Seen.{rowIs, rowsOf}
+use Rattle.senders.specs.Rows.{rowIs}
+use Rattle.ledger.specs.Seen.{rowsOf}
 use Rattle.ledger.proofs.Seating.{rows-outside}
 use Rattle.ledger.proofs.Answered.{is-no-sender}
 use borrow.Author.Needs.{needs}
 use Rattle.ledger.proofs.joining.row_of.Statement.{statement}
 use Rattle.ledger.proofs.joining.row_of.Tie as tie
+use Rattle.sets.proofs.Numbers.{place-next}
 
-is-sender-requires : tie.Need-is-sender-requires
-is-sender-requires c κs = search needs
+is-bench-requires : tie.Need-is-bench-requires
+is-bench-requires c κs = search needs
 
 returns : tie.Need-returns
 unfolding rowIs
@@ -20,15 +22,15 @@ returns c =
     let seats : _≡_ {A = ℕ} (length (z .ledger .seats)) 16 = sym (length-map (z .ledger .seats) _) ∙ c .before .before .good .0 .1 .1 .1 .0 .1 .0 .1 in
     sym (rows-outside (z .ledger .seats) (z .sender .0) seats (search is-no-sender))
 
-place-of-requires : tie.Need-place-of-requires
-place-of-requires c κs = search needs
+place-requires : tie.Need-place-requires
+place-requires c κs = search needs
 
 row-at-requires : tie.Need-row-at-requires
 row-at-requires c κs = search needs
 
 returns-2 : tie.Need-returns-2
-returns-2 c = c .row-at .ensures ∙ ap (rowsOf (c .before .before .before .before .args .ledger .seats)) (c .before .place-of .ensures .1 (sym (c .before .before .before .is-sender .ensures) ∙ not-false _ (c .before .before .if1 .left)))
+returns-2 c = c .row-at .ensures ∙ ap (rowsOf (c .before .before .before .before .args .ledger .seats)) (place-next _ _ (c .before .place .ensures .0) (sym (c .before .before .before .is-bench .ensures) ∙ not-false _ (c .before .before .if1 .left)))
 
 pub row-of-spec : {M : Type 1} → statement M
 row-of-spec =
-    tie.close (tie.spec is-sender-requires returns place-of-requires row-at-requires returns-2)
+    tie.close (tie.spec is-bench-requires returns place-requires row-at-requires returns-2)

@@ -9,9 +9,10 @@ use Rattle.ledger.proofs.Answered.{tells-refused, knows, end-done}
 use borrow.Author.Needs.{needs}
 use Rattle.ledger.proofs.sweeping.end_in.Statement.{statement}
 use Rattle.ledger.proofs.sweeping.end_in.Tie as tie
+use Rattle.sets.proofs.Numbers.{place-next}
 
-place-of-requires : tie.Need-place-of-requires
-place-of-requires c κs = search needs
+place-requires : tie.Need-place-requires
+place-requires c κs = search needs
 
 mul-seat : tie.Need-mul-seat
 mul-seat c = search needs
@@ -45,26 +46,26 @@ returns : tie.Need-returns
 unfolding rowsOf bookOf
 returns c =
     let z = c .before .before .before .before .before .before .before .before .before .before .before .before .before .args in
-    let p = c .before .before .before .before .before .before .before .before .before .before .before .place-of in
+    let p = c .before .before .before .before .before .before .before .before .before .before .before .place in
     let w = z .room .now in
     let there : p .result < length (z .ledger .seats) = omega (arith, p .ensures, sym (length-map (z .ledger .seats) _) ∙ c .before .before .before .before .before .before .before .before .before .before .before .before .before .good .0 .1 .1 .1 .0 .1 .0 .1) in
-    end-done (z .ledger) w (z .sender .0) (p .result) (p .ensures .1) _ refl there _ (z .slot .0) (c .before .ended .ensures) (c .before .before .before .before .before .before .before .before .before .before .before .before .before .pre) _ (c .before .before .before .before .before .before .lesser .ensures) _ _ (c .before .before .before .before .take-out .ensures) _
-    (c .before .before .before .before .before .before .before .before .end-number .ensures (bookOf (z .ledger) w) refl (knows (z .ledger) w (z .sender .0) (p .result) (p .ensures .1) _ refl)) (c .before .before .before .before .before .before .before .if1 .taken)
+    end-done (z .ledger) w (z .sender .0) (p .result) (place-next _ _ (p .ensures .0)) _ refl there _ (z .slot .0) (c .before .ended .ensures) (c .before .before .before .before .before .before .before .before .before .before .before .before .before .pre) _ (c .before .before .before .before .before .before .lesser .ensures) _ _ (c .before .before .before .before .take-out .ensures) _
+    (c .before .before .before .before .before .before .before .before .end-number .ensures (bookOf (z .ledger) w) refl (knows (z .ledger) w (z .sender .0) (p .result) (place-next _ _ (p .ensures .0)) _ refl)) (c .before .before .before .before .before .before .before .if1 .taken)
 
 returns-2 : tie.Need-returns-2
 unfolding rowsOf bookOf
 returns-2 c =
     let z = c .before .before .before .before .before .before .args in
-    let p = c .before .before .before .before .place-of in
+    let p = c .before .before .before .before .place in
     let w = z .room .now in
     tells-refused (z .ledger) w _ _
-    (c .before .end-number .ensures (bookOf (z .ledger) w) refl (knows (z .ledger) w (z .sender .0) (p .result) (p .ensures .1) _ refl)) (c .if1 .left)
+    (c .before .end-number .ensures (bookOf (z .ledger) w) refl (knows (z .ledger) w (z .sender .0) (p .result) (place-next _ _ (p .ensures .0)) _ refl)) (c .if1 .left)
 
 pub end-in-spec : {M : Type 1} → statement M
 end-in-spec =
     tie.close
     (tie.spec
-    place-of-requires
+    place-requires
     mul-seat
     element-copy-out-seat
     end-number-requires

@@ -5,9 +5,10 @@ use Rattle.ledger.proofs.Answered.{held-fewer, tells-refused, knows, sw
 use borrow.Author.Needs.{needs}
 use Rattle.ledger.proofs.sweeping.sweep_in.Statement.{statement}
 use Rattle.ledger.proofs.sweeping.sweep_in.Tie as tie
+use Rattle.sets.proofs.Numbers.{place-next}
 
-place-of-requires : tie.Need-place-of-requires
-place-of-requires c κs = search needs
+place-requires : tie.Need-place-requires
+place-requires c κs = search needs
 
 row-at-requires : tie.Need-row-at-requires
 row-at-requires c κs = search needs
@@ -37,26 +38,26 @@ returns : tie.Need-returns
 unfolding bookOf
 returns c =
     let z = c .before .before .before .before .before .before .before .before .args in
-    let p = c .before .before .before .before .before .before .place-of in
+    let p = c .before .before .before .before .before .before .place in
     let w = z .room .now in
     let n = c .before .before .before .before .sweep-number in
-    sweep-done (z .ledger) w (z .sender .0) (p .result) (p .ensures .1) _ (c .before .before .before .before .before .row-at .ensures) (c .before .before .before .before .before .before .before .before .pre) (n .ensures .1 (c .before .before .before .if1 .taken) .2) (z .tag) _ (rw (← c .before .before .open-slot .ensures) (c .before .word .ensures)) _
-    (n .ensures .0 (bookOf (z .ledger) w) (z .tag) (knows (z .ledger) w (z .sender .0) (p .result) (p .ensures .1) _ (c .before .before .before .before .before .row-at .ensures)) (held-fewer w (z .ledger .cursor .held) (c .before .before .before .before .before .before .before .before .pre))) (c .before .before .before .if1 .taken)
+    sweep-done (z .ledger) w (z .sender .0) (p .result) (place-next _ _ (p .ensures .0)) _ (c .before .before .before .before .before .row-at .ensures) (c .before .before .before .before .before .before .before .before .pre) (n .ensures .1 (c .before .before .before .if1 .taken) .2) (z .tag) _ (rw (← c .before .before .open-slot .ensures) (c .before .word .ensures)) _
+    (n .ensures .0 (bookOf (z .ledger) w) (z .tag) (knows (z .ledger) w (z .sender .0) (p .result) (place-next _ _ (p .ensures .0)) _ (c .before .before .before .before .before .row-at .ensures)) (held-fewer w (z .ledger .cursor .held) (c .before .before .before .before .before .before .before .before .pre))) (c .before .before .before .if1 .taken)
 
 returns-2 : tie.Need-returns-2
 unfolding bookOf
 returns-2 c =
     let z = c .before .before .before .before .before .args in
-    let p = c .before .before .before .place-of in
+    let p = c .before .before .before .place in
     let w = z .room .now in
     tells-refused (z .ledger) w _ _
-    (c .before .sweep-number .ensures .0 (bookOf (z .ledger) w) (z .tag) (knows (z .ledger) w (z .sender .0) (p .result) (p .ensures .1) _ (c .before .before .row-at .ensures)) (held-fewer w (z .ledger .cursor .held) (c .before .before .before .before .before .pre))) (c .if1 .left)
+    (c .before .sweep-number .ensures .0 (bookOf (z .ledger) w) (z .tag) (knows (z .ledger) w (z .sender .0) (p .result) (place-next _ _ (p .ensures .0)) _ (c .before .before .row-at .ensures)) (held-fewer w (z .ledger .cursor .held) (c .before .before .before .before .before .pre))) (c .if1 .left)
 
 pub sweep-in-spec : {M : Type 1} → statement M
 sweep-in-spec =
     tie.close
     (tie.spec
-    place-of-requires
+    place-requires
     row-at-requires
     sweep-number-requires
     open-slot-requires

@@ -8,8 +8,8 @@ use borrow.Author.Needs.{needs}
 use Rattle.ledger.proofs.sweeping.sweep_number.Statement.{statement}
 use Rattle.ledger.proofs.sweeping.sweep_number.Tie as tie
 
-is-sender-requires : tie.Need-is-sender-requires
-is-sender-requires c κs = search needs
+is-bench-requires : tie.Need-is-bench-requires
+is-bench-requires c κs = search needs
 
 returns : tie.Need-returns
 returns c = (λ b tag known full. search sweep-1, λ z. absurd (omega arith))
@@ -30,13 +30,13 @@ returns-4 : tie.Need-returns-4
 returns-4 c = (λ b tag known full. search sweep-25, λ z. absurd (omega arith))
 
 returns-5 : tie.Need-returns-5
-returns-5 c = (λ b tag known full. search sweep-0, λ z. (bench-range (c .before .before .before .before .before .before .before .before .args .sender .0) (sym (c .before .before .before .before .before .before .before .is-sender .ensures) ∙ not-false _ (c .before .before .before .before .before .before .if1 .left)) .1, omega (arith, c .before .before .before .open-slot .ensures), omega arith))
+returns-5 c = (λ b tag known full. search sweep-0, λ z. (bench-range (c .before .before .before .before .before .before .before .before .args .sender .0) (sym (c .before .before .before .before .before .before .before .is-bench .ensures) ∙ not-false _ (c .before .before .before .before .before .before .if1 .left)) .1, omega (arith, c .before .before .before .open-slot .ensures), omega arith))
 
 pub sweep-number-spec : {M : Type 1} → statement M
 sweep-number-spec =
     tie.close
     (tie.spec
-    is-sender-requires
+    is-bench-requires
     returns
     is-open-requires
     returns-2
