@@ -14,4 +14,5 @@ pub mod Empty
 pub mod Meeting
 pub mod Decisions
 pub mod Local
+pub mod ByValue
 pub mod Theorems

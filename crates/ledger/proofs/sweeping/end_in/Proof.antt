@@ -45,17 +45,25 @@ same-length c = search needs
 returns : tie.Need-returns
 unfolding rowsOf bookOf
 returns c =
-    let z = c .before .before .before .before .before .before .before .before .before .before .before .before .before .args in
-    let p = c .before .before .before .before .before .before .before .before .before .before .before .place in
+    let way = c .before .before .before in
+    let at-lesser = way .before .before .before in
+    let at-if1 = at-lesser .before in
+    let at-end-number = at-if1 .before in
+    let at-place = at-end-number .before .before .before in
+    let start = at-place .before .before in
+    let z = start .args in
+    let p = at-place .place in
     let w = z .room .now in
-    let there : p .result < length (z .ledger .seats) = omega (arith, p .ensures, sym (length-map (z .ledger .seats) _) ∙ c .before .before .before .before .before .before .before .before .before .before .before .before .before .good .0 .1 .1 .1 .0 .1 .0 .1) in
-    end-done (z .ledger) w (z .sender .0) (p .result) (place-next _ _ (p .ensures .0)) _ refl there _ (z .slot .0) (c .before .ended .ensures) (c .before .before .before .before .before .before .before .before .before .before .before .before .before .pre) _ (c .before .before .before .before .before .before .lesser .ensures) _ _ (c .before .before .before .before .take-out .ensures) _
-    (c .before .before .before .before .before .before .before .before .end-number .ensures (bookOf (z .ledger) w) refl (knows (z .ledger) w (z .sender .0) (p .result) (place-next _ _ (p .ensures .0)) _ refl)) (c .before .before .before .before .before .before .before .if1 .taken)
+    let there : p .result < length (z .ledger .seats) = omega (arith, p .ensures, sym (length-map (z .ledger .seats) _) ∙ start .good .0 .1 .1 .1 .0 .1 .0 .1) in
+    end-done (z .ledger) w (z .sender .0) (p .result) (place-next _ _ (p .ensures .0)) _ refl there _ (z .slot .0) (c .before .ended .ensures) (start .pre) _ (at-lesser .lesser .ensures) _ _ (c .before .before .before .before .take-out .ensures) _
+    (at-end-number .end-number .ensures (bookOf (z .ledger) w) refl (knows (z .ledger) w (z .sender .0) (p .result) (place-next _ _ (p .ensures .0)) _ refl)) (at-if1 .if1 .taken)
 
 returns-2 : tie.Need-returns-2
 unfolding rowsOf bookOf
 returns-2 c =
-    let z = c .before .before .before .before .before .before .args in
+    let way = c .before .before .before in
+    let start = way .before .before .before in
+    let z = start .args in
     let p = c .before .before .before .before .place in
     let w = z .room .now in
     tells-refused (z .ledger) w _ _

@@ -37,12 +37,15 @@ same-length c = search needs
 returns : tie.Need-returns
 unfolding bookOf
 returns c =
-    let z = c .before .before .before .before .before .before .before .before .args in
-    let p = c .before .before .before .before .before .before .place in
+    let way = c .before .before .before in
+    let at-place = way .before .before .before in
+    let start = at-place .before .before in
+    let z = start .args in
+    let p = at-place .place in
     let w = z .room .now in
     let n = c .before .before .before .before .sweep-number in
-    sweep-done (z .ledger) w (z .sender .0) (p .result) (place-next _ _ (p .ensures .0)) _ (c .before .before .before .before .before .row-at .ensures) (c .before .before .before .before .before .before .before .before .pre) (n .ensures .1 (c .before .before .before .if1 .taken) .2) (z .tag) _ (rw (← c .before .before .open-slot .ensures) (c .before .word .ensures)) _
-    (n .ensures .0 (bookOf (z .ledger) w) (z .tag) (knows (z .ledger) w (z .sender .0) (p .result) (place-next _ _ (p .ensures .0)) _ (c .before .before .before .before .before .row-at .ensures)) (held-fewer w (z .ledger .cursor .held) (c .before .before .before .before .before .before .before .before .pre))) (c .before .before .before .if1 .taken)
+    sweep-done (z .ledger) w (z .sender .0) (p .result) (place-next _ _ (p .ensures .0)) _ (c .before .before .before .before .before .row-at .ensures) (start .pre) (n .ensures .1 (c .before .before .before .if1 .taken) .2) (z .tag) _ (rw (← c .before .before .open-slot .ensures) (c .before .word .ensures)) _
+    (n .ensures .0 (bookOf (z .ledger) w) (z .tag) (knows (z .ledger) w (z .sender .0) (p .result) (place-next _ _ (p .ensures .0)) _ (c .before .before .before .before .before .row-at .ensures)) (held-fewer w (z .ledger .cursor .held) (start .pre))) (c .before .before .before .if1 .taken)
 
 returns-2 : tie.Need-returns-2
 unfolding bookOf

@@ -30,7 +30,12 @@ returns-4 : tie.Need-returns-4
 returns-4 c = (λ b tag known full. search sweep-25, λ z. absurd (omega arith))
 
 returns-5 : tie.Need-returns-5
-returns-5 c = (λ b tag known full. search sweep-0, λ z. (bench-range (c .before .before .before .before .before .before .before .before .args .sender .0) (sym (c .before .before .before .before .before .before .before .is-bench .ensures) ∙ not-false _ (c .before .before .before .before .before .before .if1 .left)) .1, omega (arith, c .before .before .before .open-slot .ensures), omega arith))
+returns-5 c =
+    let way = c .before .before .before in
+    let at-if1 = way .before .before .before in
+    let at-is-bench = at-if1 .before in
+    let start = at-is-bench .before in
+    (λ b tag known full. search sweep-0, λ z. (bench-range (start .args .sender .0) (sym (at-is-bench .is-bench .ensures) ∙ not-false _ (at-if1 .if1 .left)) .1, omega (arith, c .before .before .before .open-slot .ensures), omega arith))
 
 pub sweep-number-spec : {M : Type 1} → statement M
 sweep-number-spec =

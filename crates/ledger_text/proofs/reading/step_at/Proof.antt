@@ -42,7 +42,11 @@ close-at-requires c κs = search needs
 
 returns-3 : tie.Need-returns-3
 unfolding stepAt
-returns-3 c = rw (sym (c .before .before .before .before .before .before .before .before .starts .ensures) ∙ c .before .before .before .before .before .before .before .if1 .left, sym (c .before .before .before .before .before .starts2 .ensures) ∙ c .before .before .before .before .if2 .left, sym (c .before .before .starts3 .ensures) ∙ c .before .if3 .taken) (c .close-at .ensures)
+returns-3 c =
+    let way = c .before .before .before .before in
+    let at-if1 = way .before .before .before in
+    let at-starts = at-if1 .before in
+    rw (sym (at-starts .starts .ensures) ∙ at-if1 .if1 .left, sym (c .before .before .before .before .before .starts2 .ensures) ∙ c .before .before .before .before .if2 .left, sym (c .before .before .starts3 .ensures) ∙ c .before .if3 .taken) (c .close-at .ensures)
 
 slice-aggregate-starts-4 : tie.Need-slice-aggregate-starts-4
 slice-aggregate-starts-4 c = search needs
@@ -55,7 +59,13 @@ end-at-requires c κs = search needs
 
 returns-4 : tie.Need-returns-4
 unfolding stepAt
-returns-4 c = rw (sym (c .before .before .before .before .before .before .before .before .before .before .before .starts .ensures) ∙ c .before .before .before .before .before .before .before .before .before .before .if1 .left, sym (c .before .before .before .before .before .before .before .before .starts2 .ensures) ∙ c .before .before .before .before .before .before .before .if2 .left, sym (c .before .before .before .before .before .starts3 .ensures) ∙ c .before .before .before .before .if3 .left, sym (c .before .before .starts4 .ensures) ∙ c .before .if4 .taken) (c .end-at .ensures)
+returns-4 c =
+    let way = c .before .before .before .before in
+    let at-if2 = way .before .before .before in
+    let at-starts2 = at-if2 .before in
+    let at-if1 = at-starts2 .before .before in
+    let at-starts = at-if1 .before in
+    rw (sym (at-starts .starts .ensures) ∙ at-if1 .if1 .left, sym (at-starts2 .starts2 .ensures) ∙ at-if2 .if2 .left, sym (c .before .before .before .before .before .starts3 .ensures) ∙ c .before .before .before .before .if3 .left, sym (c .before .before .starts4 .ensures) ∙ c .before .if4 .taken) (c .end-at .ensures)
 
 slice-aggregate-starts-5 : tie.Need-slice-aggregate-starts-5
 slice-aggregate-starts-5 c = search needs
@@ -68,11 +78,27 @@ hand-at-requires c κs = search needs
 
 returns-5 : tie.Need-returns-5
 unfolding stepAt
-returns-5 c = rw (sym (c .before .before .before .before .before .before .before .before .before .before .before .before .before .before .starts .ensures) ∙ c .before .before .before .before .before .before .before .before .before .before .before .before .before .if1 .left, sym (c .before .before .before .before .before .before .before .before .before .before .before .starts2 .ensures) ∙ c .before .before .before .before .before .before .before .before .before .before .if2 .left, sym (c .before .before .before .before .before .before .before .before .starts3 .ensures) ∙ c .before .before .before .before .before .before .before .if3 .left, sym (c .before .before .before .before .before .starts4 .ensures) ∙ c .before .before .before .before .if4 .left, sym (c .before .before .starts5 .ensures) ∙ c .before .if5 .taken) (c .hand-at .ensures)
+returns-5 c =
+    let way = c .before .before .before .before in
+    let at-if3 = way .before .before .before in
+    let at-starts3 = at-if3 .before in
+    let at-if2 = at-starts3 .before .before in
+    let at-starts2 = at-if2 .before in
+    let at-if1 = at-starts2 .before .before in
+    let at-starts = at-if1 .before in
+    rw (sym (at-starts .starts .ensures) ∙ at-if1 .if1 .left, sym (at-starts2 .starts2 .ensures) ∙ at-if2 .if2 .left, sym (at-starts3 .starts3 .ensures) ∙ at-if3 .if3 .left, sym (c .before .before .before .before .before .starts4 .ensures) ∙ c .before .before .before .before .if4 .left, sym (c .before .before .starts5 .ensures) ∙ c .before .if5 .taken) (c .hand-at .ensures)
 
 returns-6 : tie.Need-returns-6
 unfolding stepAt
-returns-6 c = rw (sym (c .before .before .before .before .before .before .before .before .before .before .before .before .before .starts .ensures) ∙ c .before .before .before .before .before .before .before .before .before .before .before .before .if1 .left, sym (c .before .before .before .before .before .before .before .before .before .before .starts2 .ensures) ∙ c .before .before .before .before .before .before .before .before .before .if2 .left, sym (c .before .before .before .before .before .before .before .starts3 .ensures) ∙ c .before .before .before .before .before .before .if3 .left, sym (c .before .before .before .before .starts4 .ensures) ∙ c .before .before .before .if4 .left, sym (c .before .starts5 .ensures) ∙ c .if5 .left) refl
+returns-6 c =
+    let way = c .before .before .before in
+    let at-if3 = way .before .before .before in
+    let at-starts3 = at-if3 .before in
+    let at-if2 = at-starts3 .before .before in
+    let at-starts2 = at-if2 .before in
+    let at-if1 = at-starts2 .before .before in
+    let at-starts = at-if1 .before in
+    rw (sym (at-starts .starts .ensures) ∙ at-if1 .if1 .left, sym (at-starts2 .starts2 .ensures) ∙ at-if2 .if2 .left, sym (at-starts3 .starts3 .ensures) ∙ at-if3 .if3 .left, sym (c .before .before .before .before .starts4 .ensures) ∙ c .before .before .before .if4 .left, sym (c .before .starts5 .ensures) ∙ c .if5 .left) refl
 
 pub step-at-spec : {M : Type 1} → statement M
 step-at-spec =

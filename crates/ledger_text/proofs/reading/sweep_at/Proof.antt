@@ -32,11 +32,17 @@ enum-told-2 c = search needs
 
 returns-2 : tie.Need-returns-2
 unfolding sweepAt
-returns-2 c = rw (sym (c .before .before .before .before .before .before .field-at .ensures) ∙ c .before .before .before .before .sender .given .1) (rw (sym (c .before .before .tag-field-at .ensures) ∙ c .enum-told2 .given .1) refl)
+returns-2 c =
+    let way = c .before .before .before in
+    let at-field-at = way .before .before .before in
+    rw (sym (at-field-at .field-at .ensures) ∙ c .before .before .before .before .sender .given .1) (rw (sym (c .before .before .tag-field-at .ensures) ∙ c .enum-told2 .given .1) refl)
 
 returns-3 : tie.Need-returns-3
 unfolding sweepAt
-returns-3 c = rw (sym (c .before .before .before .before .before .before .before .field-at .ensures) ∙ c .before .before .before .before .before .sender .given .1) (rw (sym (c .before .before .before .tag-field-at .ensures) ∙ c .before .tag .given .1) refl)
+returns-3 c =
+    let way = c .before .before .before .before in
+    let at-field-at = way .before .before .before in
+    rw (sym (at-field-at .field-at .ensures) ∙ c .before .before .before .before .before .sender .given .1) (rw (sym (c .before .before .before .tag-field-at .ensures) ∙ c .before .tag .given .1) refl)
 
 pub sweep-at-spec : {M : Type 1} → statement M
 sweep-at-spec =

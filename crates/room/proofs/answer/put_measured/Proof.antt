@@ -41,7 +41,10 @@ same-length-2 c = search needs
 
 returns-2 : tie.Need-returns-2
 returns-2 c =
-    let m = answer-measured _ _ (c .before .before .before .before .before .before .before .before .number-length .ensures) (c .before .before .before .before .before .before .before .number-length2 .ensures) in
+    let way = c .before .before .before .before in
+    let at-number-length2 = way .before .before .before in
+    let at-number-length = at-number-length2 .before in
+    let m = answer-measured _ _ (at-number-length .number-length .ensures) (at-number-length2 .number-length2 .ensures) in
     stored-fitting (room-measured _ (answerText _ _) _ _ m (room-is (c .before .before .before .before .before .has-room .ensures) (c .before .before .before .before .if1 .left))) (c .before .before .store-answer .ensures)
 
 pub put-measured-spec : {M : Type 1} → statement M

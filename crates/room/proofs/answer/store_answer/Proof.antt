@@ -16,16 +16,27 @@ slice-aggregate-store-bytes : tie.Need-slice-aggregate-store-bytes
 slice-aggregate-store-bytes c = search needs
 
 store-bytes-requires : tie.Need-store-bytes-requires
-store-bytes-requires c κs = room-front _ (ascii " answer=") (digits _) (room-after (ascii " answer=" ++ digits _) (c .before .before .before .before .store-field .ensures) (c .before .before .before .before .before .before .before .before .pre))
+store-bytes-requires c κs =
+    let way = c .before .before .before .before in
+    let start = way .before .before .before .before in
+    room-front _ (ascii " answer=") (digits _) (room-after (ascii " answer=" ++ digits _) (c .before .before .before .before .store-field .ensures) (start .pre))
 
 store-short-requires : tie.Need-store-short-requires
-store-short-requires c κs = room-after (digits _) (c .before .before .before .store-bytes .ensures) (room-after (ascii " answer=" ++ digits _) (c .before .before .before .before .before .before .before .before .store-field .ensures) (c .before .before .before .before .before .before .before .before .before .before .before .before .pre))
+store-short-requires c κs =
+    let way = c .before .before .before .before in
+    let at-store-field = way .before .before .before .before in
+    let start = at-store-field .before .before .before .before in
+    room-after (digits _) (c .before .before .before .store-bytes .ensures) (room-after (ascii " answer=" ++ digits _) (at-store-field .store-field .ensures) (start .pre))
 
 same-length : tie.Need-same-length
 same-length c = search needs
 
 returns : tie.Need-returns
-returns c = stored-then (c .before .before .before .before .before .before .before .before .before .before .before .store-field .ensures) (stored-then (c .before .before .before .before .before .before .store-bytes .ensures) (c .before .before .store-short .ensures))
+returns c =
+    let way = c .before .before .before in
+    let at-store-bytes = way .before .before .before in
+    let at-store-field = at-store-bytes .before .before .before .before .before in
+    stored-then (at-store-field .store-field .ensures) (stored-then (at-store-bytes .store-bytes .ensures) (c .before .before .store-short .ensures))
 
 pub store-answer-spec : {M : Type 1} → statement M
 store-answer-spec =

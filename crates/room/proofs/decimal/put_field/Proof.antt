@@ -20,7 +20,9 @@ returns c = search (not-fitting, room-not, short-first)
 
 add-has-room : tie.Need-add-has-room
 add-has-room c =
-    let s = c .before .before .before .before .before .before in
+    let way = c .before .before .before in
+    let there = way .before .before .before in
+    let s = there in
     let h : s .args .at + length (now (s .args .key)) ≤ length (now (s .args .room)) = room-is (c .before .before .has-room .ensures) (c .before .if1 .left) in
     omega (arith, s .good .0 .0)
 
@@ -38,7 +40,9 @@ returns-2 c = search (not-fitting, room-not, short-second)
 
 store-field-requires : tie.Need-store-field-requires
 store-field-requires c κs =
-    let s = c .before .before .before .before .before .before .before .before .before .before in
+    let way = c .before .before .before .before .before in
+    let there = way .before .before .before .before .before in
+    let s = there in
     room-second _ (now (s .args .key)) (digits (s .args .n)) _ _ (c .before .before .before .number-length .ensures) (room-is (c .before .before .has-room2 .ensures) (c .before .if2 .left))
 
 same-length-3 : tie.Need-same-length-3

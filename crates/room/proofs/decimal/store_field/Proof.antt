@@ -10,13 +10,19 @@ store-bytes-requires : tie.Need-store-bytes-requires
 store-bytes-requires c κs = room-front _ (now (c .before .before .before .args .key)) (digits _) (c .before .before .before .pre)
 
 store-number-requires : tie.Need-store-number-requires
-store-number-requires c κs = room-after (digits _) (c .before .before .before .store-bytes .ensures) (c .before .before .before .before .before .before .before .pre)
+store-number-requires c κs =
+    let way = c .before .before .before .before in
+    let start = way .before .before .before in
+    room-after (digits _) (c .before .before .before .store-bytes .ensures) (start .pre)
 
 same-length : tie.Need-same-length
 same-length c = search needs
 
 returns : tie.Need-returns
-returns c = stored-then (c .before .before .before .before .before .before .store-bytes .ensures) (c .before .before .store-number .ensures)
+returns c =
+    let way = c .before .before .before in
+    let at-store-bytes = way .before .before .before in
+    stored-then (at-store-bytes .store-bytes .ensures) (c .before .before .store-number .ensures)
 
 pub store-field-spec : {M : Type 1} → statement M
 store-field-spec =

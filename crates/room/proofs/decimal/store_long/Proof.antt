@@ -10,13 +10,19 @@ store-high-requires : tie.Need-store-high-requires
 store-high-requires c κs = room-front _ (high _) (low _) (rw (high-low _) at (c .before .before .pre))
 
 store-low-requires : tie.Need-store-low-requires
-store-low-requires c κs = room-after (low _) (c .before .before .before .store-high .ensures) (rw (high-low _) at (c .before .before .before .before .before .before .pre))
+store-low-requires c κs =
+    let way = c .before .before .before in
+    let start = way .before .before .before in
+    room-after (low _) (c .before .before .before .store-high .ensures) (rw (high-low _) at (start .pre))
 
 same-length : tie.Need-same-length
 same-length c = search needs
 
 returns : tie.Need-returns
-returns c = rw (high-low _) (stored-then (c .before .before .before .before .before .before .store-high .ensures) (c .before .before .store-low .ensures))
+returns c =
+    let way = c .before .before .before in
+    let at-store-high = way .before .before .before in
+    rw (high-low _) (stored-then (at-store-high .store-high .ensures) (c .before .before .store-low .ensures))
 
 pub store-long-spec : {M : Type 1} → statement M
 store-long-spec =

@@ -69,7 +69,11 @@ whole c =
 
 add-result : tie.Need-add-result
 add-result c =
-    let start = c .before .before .before .before .before .before .before .before .before .before .before .before .before .before .before .before .before in
+    let way = c .before .before .before .before .before in
+    let way2 = way .before .before .before .before .before in
+    let way3 = way2 .before .before .before .before in
+    let there = way3 .before .before .before in
+    let start = there in
     omega (arith, whole c .place, start .pre, start .good .0 .0)
 
 same-length : tie.Need-same-length

@@ -12,7 +12,9 @@ store-digit-requires c κs =
 
 store-digit-requires-2 : tie.Need-store-digit-requires-2
 store-digit-requires-2 c κs =
-    let s = c .before .before .before .before .before .before in
+    let way = c .before .before .before in
+    let there = way .before .before .before in
+    let s = there in
     (omega arith, parts-last (s .args .n) (omega arith) (omega arith) (c .before .before .before .store-digit .ensures) (s .pre .2))
 
 same-length : tie.Need-same-length
@@ -20,8 +22,11 @@ same-length c = search needs
 
 returns : tie.Need-returns
 returns c =
-    let s = c .before .before .before .before .before .before .before .before .before in
-    parts-stored (s .args .n) (omega arith) (omega arith) (c .before .before .before .before .before .before .store-digit .ensures) (c .before .before .store-digit2 .ensures)
+    let way = c .before .before .before in
+    let at-store-digit = way .before .before .before in
+    let there = at-store-digit .before .before .before in
+    let s = there in
+    parts-stored (s .args .n) (omega arith) (omega arith) (at-store-digit .store-digit .ensures) (c .before .before .store-digit2 .ensures)
 
 pub store-tens-spec : {M : Type 1} → statement M
 store-tens-spec =

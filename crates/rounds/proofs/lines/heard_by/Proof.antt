@@ -86,7 +86,9 @@ loop-less c = search needs
 loop-again : tie.Need-loop-again Inv-loop μ-loop
 unfolding withMessage
 loop-again c =
-    let r = c .before .before .before .before .before .before .round-at .ensures in
+    let way = c .before .before .before in
+    let at-round-at = way .before .before .before in
+    let r = at-round-at .round-at .ensures in
     let n = c .before .taken-at .ensures in
     let e = c .before .before .before .loop .inv .1 in (
       search needs,

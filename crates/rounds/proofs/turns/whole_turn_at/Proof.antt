@@ -18,7 +18,9 @@ enum-known-answer c = search needs
 
 send-requires : tie.Need-send-requires
 send-requires c κs =
-    let asked = c .before .before .before .before .before .before in
+    let way = c .before .before .before in
+    let there = way .before .before .before in
+    let asked = there in
     let loaded = asked .before .before .before .before in (
       search needs,
       room-decided _ _ _ (asked .turn .ensures) _ _ (c .before .before .before .answer .given .1),
@@ -30,7 +32,9 @@ enum-known-answer-2 c = search needs
 
 send-requires-2 : tie.Need-send-requires-2
 send-requires-2 c κs =
-    let asked = c .before .before .before .before .before .before in
+    let way = c .before .before .before in
+    let there = way .before .before .before in
+    let asked = there in
     let loaded = asked .before .before .before .before in (
       search needs,
       room-went _ _ _ (asked .turn .ensures) _ (c .before .before .before .answer2 .given .1),
@@ -42,13 +46,17 @@ enum-known-answer-3 c = search needs
 
 returns : tie.Need-returns
 returns c =
-    let asked = c .before .before .before .before .before .before .before in
+    let way = c .before .before .before .before in
+    let there = way .before .before .before in
+    let asked = there in
     let loaded = asked .before .before .before .before in
     turn-decided _ _ _ (asked .turn .ensures) _ _ _ (loaded .load .ensures) (asked .before .heard-by .ensures) _ _ _ _ (c .before .before .before .before .answer .given .1) (c .send .ensures)
 
 returns-2 : tie.Need-returns-2
 returns-2 c =
-    let asked = c .before .before .before .before .before .before .before in
+    let way = c .before .before .before .before in
+    let there = way .before .before .before in
+    let asked = there in
     let loaded = asked .before .before .before .before in
     turn-went _ _ _ (asked .turn .ensures) _ _ _ (loaded .load .ensures) (asked .before .heard-by .ensures) _ _ _ (c .before .before .before .before .answer2 .given .1) (c .send2 .ensures)
 

@@ -29,7 +29,10 @@ starts-requires-2 : tie.Need-starts-requires-2
 starts-requires-2 c κs = search needs
 
 add-t16 : tie.Need-add-t16
-add-t16 c = omega (arith, key-room (ascii "abstain bench=") (now (c .before .before .before .before .before .before .before .args .text)) (c .before .before .before .before .before .before .before .args .at) (c .before .starts2 .ensures) (c .if2 .taken), c .before .before .before .before .before .before .before .fits .at .fits, c .before .before .before .before .before .before .before .good .0 .0)
+add-t16 c =
+    let way = c .before .before .before .before in
+    let start = way .before .before .before in
+    omega (arith, key-room (ascii "abstain bench=") (now (start .args .text)) (start .args .at) (c .before .starts2 .ensures) (c .if2 .taken), start .fits .at .fits, start .good .0 .0)
 
 returns-2 : tie.Need-returns-2
 unfolding rareVerbAt keyOf
@@ -45,15 +48,22 @@ starts-requires-3 : tie.Need-starts-requires-3
 starts-requires-3 c κs = search needs
 
 add-t21 : tie.Need-add-t21
-add-t21 c = omega (arith, key-room (ascii "leave bench=") (now (c .before .before .before .before .before .before .before .before .before .before .args .text)) (c .before .before .before .before .before .before .before .before .before .before .args .at) (c .before .starts3 .ensures) (c .if3 .taken), c .before .before .before .before .before .before .before .before .before .before .fits .at .fits, c .before .before .before .before .before .before .before .before .before .before .good .0 .0)
+add-t21 c =
+    let way = c .before .before .before .before .before in
+    let start = way .before .before .before .before .before in
+    omega (arith, key-room (ascii "leave bench=") (now (start .args .text)) (start .args .at) (c .before .starts3 .ensures) (c .if3 .taken), start .fits .at .fits, start .good .0 .0)
 
 returns-3 : tie.Need-returns-3
 unfolding rareVerbAt keyOf
-returns-3 c = rw (
-  sym (c .before .before .before .before .before .before .before .starts .ensures) ∙ c .before .before .before .before .before .before .if1 .left,
-  sym (c .before .before .before .before .starts2 .ensures) ∙ c .before .before .before .if2 .left,
-  sym (c .before .starts3 .ensures) ∙ c .if3 .taken,
-) refl
+returns-3 c =
+    let way = c .before .before .before in
+    let at-if1 = way .before .before .before in
+    let at-starts = at-if1 .before in
+    rw (
+      sym (at-starts .starts .ensures) ∙ at-if1 .if1 .left,
+      sym (c .before .before .before .before .starts2 .ensures) ∙ c .before .before .before .if2 .left,
+      sym (c .before .starts3 .ensures) ∙ c .if3 .taken,
+    ) refl
 
 slice-aggregate-starts-4 : tie.Need-slice-aggregate-starts-4
 slice-aggregate-starts-4 c = search needs
@@ -62,25 +72,41 @@ starts-requires-4 : tie.Need-starts-requires-4
 starts-requires-4 c κs = search needs
 
 add-t26 : tie.Need-add-t26
-add-t26 c = omega (arith, key-room (ascii "fail bench=") (now (c .before .before .before .before .before .before .before .before .before .before .before .before .before .args .text)) (c .before .before .before .before .before .before .before .before .before .before .before .before .before .args .at) (c .before .starts4 .ensures) (c .if4 .taken), c .before .before .before .before .before .before .before .before .before .before .before .before .before .fits .at .fits, c .before .before .before .before .before .before .before .before .before .before .before .before .before .good .0 .0)
+add-t26 c =
+    let way = c .before .before .before .before .before in
+    let way2 = way .before .before .before .before in
+    let start = way2 .before .before .before .before in
+    omega (arith, key-room (ascii "fail bench=") (now (start .args .text)) (start .args .at) (c .before .starts4 .ensures) (c .if4 .taken), start .fits .at .fits, start .good .0 .0)
 
 returns-4 : tie.Need-returns-4
 unfolding rareVerbAt keyOf
-returns-4 c = rw (
-  sym (c .before .before .before .before .before .before .before .before .before .before .starts .ensures) ∙ c .before .before .before .before .before .before .before .before .before .if1 .left,
-  sym (c .before .before .before .before .before .before .before .starts2 .ensures) ∙ c .before .before .before .before .before .before .if2 .left,
-  sym (c .before .before .before .before .starts3 .ensures) ∙ c .before .before .before .if3 .left,
-  sym (c .before .starts4 .ensures) ∙ c .if4 .taken,
-) refl
+returns-4 c =
+    let way = c .before .before .before in
+    let at-if2 = way .before .before .before in
+    let at-starts2 = at-if2 .before in
+    let at-if1 = at-starts2 .before .before in
+    let at-starts = at-if1 .before in
+    rw (
+      sym (at-starts .starts .ensures) ∙ at-if1 .if1 .left,
+      sym (at-starts2 .starts2 .ensures) ∙ at-if2 .if2 .left,
+      sym (c .before .before .before .before .starts3 .ensures) ∙ c .before .before .before .if3 .left,
+      sym (c .before .starts4 .ensures) ∙ c .if4 .taken,
+    ) refl
 
 returns-5 : tie.Need-returns-5
 unfolding rareVerbAt keyOf
-returns-5 c = rw (
-  sym (c .before .before .before .before .before .before .before .before .before .before .starts .ensures) ∙ c .before .before .before .before .before .before .before .before .before .if1 .left,
-  sym (c .before .before .before .before .before .before .before .starts2 .ensures) ∙ c .before .before .before .before .before .before .if2 .left,
-  sym (c .before .before .before .before .starts3 .ensures) ∙ c .before .before .before .if3 .left,
-  sym (c .before .starts4 .ensures) ∙ c .if4 .left,
-) refl
+returns-5 c =
+    let way = c .before .before .before in
+    let at-if2 = way .before .before .before in
+    let at-starts2 = at-if2 .before in
+    let at-if1 = at-starts2 .before .before in
+    let at-starts = at-if1 .before in
+    rw (
+      sym (at-starts .starts .ensures) ∙ at-if1 .if1 .left,
+      sym (at-starts2 .starts2 .ensures) ∙ at-if2 .if2 .left,
+      sym (c .before .before .before .before .starts3 .ensures) ∙ c .before .before .before .if3 .left,
+      sym (c .before .starts4 .ensures) ∙ c .if4 .left,
+    ) refl
 
 pub rare-verb-at-spec : {M : Type 1} → statement M
 rare-verb-at-spec =

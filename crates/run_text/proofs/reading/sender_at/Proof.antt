@@ -30,7 +30,9 @@ returns-2 c = rw (c .enum-told2 .given .1, sym (c .before .before .before .befor
 returns-3 : tie.Need-returns-3
 unfolding fromAt
 returns-3 c =
-    let s = c .before .before .before .before .before .before in
+    let way = c .before .before .before in
+    let there = way .before .before .before in
+    let s = there in
     rw (not-notice (now (s .args .text)) (s .args .at) (s .args .verb) (s .args .bench) (c .match2 .keys2), sym (c .before .before .before .before .from-at .ensures) ∙ c .before .before .from .given .1) refl
 
 pub sender-at-spec : {M : Type 1} → statement M

@@ -30,10 +30,16 @@ starts-requires c κs = search needs
 
 returns-2 : tie.Need-returns-2
 unfolding startAt
-returns-2 c = rw (sym (c .before .before .before .before .before .before .value-at .ensures) ∙ c .before .before .before .before .value .given .1) (rw (key-not _ _ _ (c .before .starts .ensures) (c .if1 .taken)) refl)
+returns-2 c =
+    let way = c .before .before .before in
+    let at-value-at = way .before .before .before in
+    rw (sym (at-value-at .value-at .ensures) ∙ c .before .before .before .before .value .given .1) (rw (key-not _ _ _ (c .before .starts .ensures) (c .if1 .taken)) refl)
 
 add-world-at : tie.Need-add-world-at
-add-world-at c = omega (arith, key-place (ascii " world=") (now (c .before .before .before .before .before .before .before .before .args .text)) (c .before .before .before .before .value .given .0 .1 .0) (c .before .starts .ensures) (c .if1 .left), c .before .before .before .before .before .before .before .before .good .0 .0)
+add-world-at c =
+    let way = c .before .before .before .before in
+    let start = way .before .before .before .before in
+    omega (arith, key-place (ascii " world=") (now (start .args .text)) (c .before .before .before .before .value .given .0 .1 .0) (c .before .starts .ensures) (c .if1 .left), start .good .0 .0)
 
 world-at-requires : tie.Need-world-at-requires
 world-at-requires c κs = search needs
@@ -46,11 +52,19 @@ enum-told-2 c = search needs
 
 returns-3 : tie.Need-returns-3
 unfolding startAt
-returns-3 c = rw (sym (c .before .before .before .before .before .before .before .before .before .value-at .ensures) ∙ c .before .before .before .before .before .before .before .value .given .1) (rw (key-is _ _ _ (c .before .before .before .before .starts .ensures) (c .before .before .before .if1 .left), sym (c .before .before .world-at .ensures) ∙ c .enum-told2 .given .1) refl)
+returns-3 c =
+    let way = c .before .before .before .before in
+    let at-value = way .before .before .before in
+    let at-value-at = at-value .before .before in
+    rw (sym (at-value-at .value-at .ensures) ∙ at-value .value .given .1) (rw (key-is _ _ _ (c .before .before .before .before .starts .ensures) (c .before .before .before .if1 .left), sym (c .before .before .world-at .ensures) ∙ c .enum-told2 .given .1) refl)
 
 returns-4 : tie.Need-returns-4
 unfolding startAt
-returns-4 c = rw (sym (c .before .before .before .before .before .before .before .before .before .before .value-at .ensures) ∙ c .before .before .before .before .before .before .before .before .value .given .1) (rw (key-is _ _ _ (c .before .before .before .before .before .starts .ensures) (c .before .before .before .before .if1 .left), sym (c .before .before .before .world-at .ensures) ∙ c .before .world .given .1) refl)
+returns-4 c =
+    let way = c .before .before .before .before in
+    let at-value = way .before .before .before .before in
+    let at-value-at = at-value .before .before in
+    rw (sym (at-value-at .value-at .ensures) ∙ at-value .value .given .1) (rw (key-is _ _ _ (c .before .before .before .before .before .starts .ensures) (c .before .before .before .before .if1 .left), sym (c .before .before .before .world-at .ensures) ∙ c .before .world .given .1) refl)
 
 pub start-at-spec : {M : Type 1} → statement M
 start-at-spec =

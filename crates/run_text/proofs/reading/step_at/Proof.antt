@@ -46,14 +46,25 @@ enum-told-2 c = search needs
 
 returns-3 : tie.Need-returns-3
 unfolding stepAt
-returns-3 c = rw (key-is _ _ _ (c .before .before .before .before .before .before .before .before .starts .ensures) (c .before .before .before .before .before .before .before .if1 .left), sym (c .before .before .before .before .before .before .verb-at .ensures) ∙ c .before .before .before .before .verb .given .1, sym (c .before .before .number-at .ensures) ∙ c .enum-told2 .given .1) refl
+returns-3 c =
+    let way = c .before .before .before in
+    let at-verb-at = way .before .before .before in
+    let at-if1 = at-verb-at .before in
+    let at-starts = at-if1 .before in
+    rw (key-is _ _ _ (at-starts .starts .ensures) (at-if1 .if1 .left), sym (at-verb-at .verb-at .ensures) ∙ c .before .before .before .before .verb .given .1, sym (c .before .before .number-at .ensures) ∙ c .enum-told2 .given .1) refl
 
 rest-at-requires : tie.Need-rest-at-requires
 rest-at-requires c κs = search needs
 
 returns-4 : tie.Need-returns-4
 unfolding stepAt
-returns-4 c = rw (key-is _ _ _ (c .before .before .before .before .before .before .before .before .before .before .starts .ensures) (c .before .before .before .before .before .before .before .before .before .if1 .left), sym (c .before .before .before .before .before .before .before .before .verb-at .ensures) ∙ c .before .before .before .before .before .before .verb .given .1, sym (c .before .before .before .before .number-at .ensures) ∙ c .before .before .bench .given .1) (c .rest-at .ensures)
+returns-4 c =
+    let way = c .before .before .before in
+    let at-verb = way .before .before .before in
+    let at-verb-at = at-verb .before .before in
+    let at-if1 = at-verb-at .before in
+    let at-starts = at-if1 .before in
+    rw (key-is _ _ _ (at-starts .starts .ensures) (at-if1 .if1 .left), sym (at-verb-at .verb-at .ensures) ∙ at-verb .verb .given .1, sym (c .before .before .before .before .number-at .ensures) ∙ c .before .before .bench .given .1) (c .rest-at .ensures)
 
 pub step-at-spec : {M : Type 1} → statement M
 step-at-spec =

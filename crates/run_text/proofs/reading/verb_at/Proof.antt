@@ -29,7 +29,10 @@ starts-requires-2 : tie.Need-starts-requires-2
 starts-requires-2 c κs = search needs
 
 add-t15 : tie.Need-add-t15
-add-t15 c = omega (arith, key-room (ascii "turn bench=") (now (c .before .before .before .before .before .before .before .args .text)) (c .before .before .before .before .before .before .before .args .at) (c .before .starts2 .ensures) (c .if2 .taken), c .before .before .before .before .before .before .before .fits .at .fits, c .before .before .before .before .before .before .before .good .0 .0)
+add-t15 c =
+    let way = c .before .before .before .before in
+    let start = way .before .before .before in
+    omega (arith, key-room (ascii "turn bench=") (now (start .args .text)) (start .args .at) (c .before .starts2 .ensures) (c .if2 .taken), start .fits .at .fits, start .good .0 .0)
 
 returns-2 : tie.Need-returns-2
 unfolding verbAt keyOf
@@ -45,26 +48,37 @@ starts-requires-3 : tie.Need-starts-requires-3
 starts-requires-3 c κs = search needs
 
 add-t20 : tie.Need-add-t20
-add-t20 c = omega (arith, key-room (ascii "notice bench=") (now (c .before .before .before .before .before .before .before .before .before .before .args .text)) (c .before .before .before .before .before .before .before .before .before .before .args .at) (c .before .starts3 .ensures) (c .if3 .taken), c .before .before .before .before .before .before .before .before .before .before .fits .at .fits, c .before .before .before .before .before .before .before .before .before .before .good .0 .0)
+add-t20 c =
+    let way = c .before .before .before .before .before in
+    let start = way .before .before .before .before .before in
+    omega (arith, key-room (ascii "notice bench=") (now (start .args .text)) (start .args .at) (c .before .starts3 .ensures) (c .if3 .taken), start .fits .at .fits, start .good .0 .0)
 
 returns-3 : tie.Need-returns-3
 unfolding verbAt keyOf
-returns-3 c = rw (
-  sym (c .before .before .before .before .before .before .before .starts .ensures) ∙ c .before .before .before .before .before .before .if1 .left,
-  sym (c .before .before .before .before .starts2 .ensures) ∙ c .before .before .before .if2 .left,
-  sym (c .before .starts3 .ensures) ∙ c .if3 .taken,
-) refl
+returns-3 c =
+    let way = c .before .before .before in
+    let at-if1 = way .before .before .before in
+    let at-starts = at-if1 .before in
+    rw (
+      sym (at-starts .starts .ensures) ∙ at-if1 .if1 .left,
+      sym (c .before .before .before .before .starts2 .ensures) ∙ c .before .before .before .if2 .left,
+      sym (c .before .starts3 .ensures) ∙ c .if3 .taken,
+    ) refl
 
 rare-verb-at-requires : tie.Need-rare-verb-at-requires
 rare-verb-at-requires c κs = search needs
 
 returns-4 : tie.Need-returns-4
 unfolding verbAt keyOf
-returns-4 c = rw (
-  sym (c .before .before .before .before .before .before .before .before .starts .ensures) ∙ c .before .before .before .before .before .before .before .if1 .left,
-  sym (c .before .before .before .before .before .starts2 .ensures) ∙ c .before .before .before .before .if2 .left,
-  sym (c .before .before .starts3 .ensures) ∙ c .before .if3 .left,
-) (c .rare-verb-at .ensures)
+returns-4 c =
+    let way = c .before .before .before .before in
+    let at-if1 = way .before .before .before in
+    let at-starts = at-if1 .before in
+    rw (
+      sym (at-starts .starts .ensures) ∙ at-if1 .if1 .left,
+      sym (c .before .before .before .before .before .starts2 .ensures) ∙ c .before .before .before .before .if2 .left,
+      sym (c .before .before .starts3 .ensures) ∙ c .before .if3 .left,
+    ) (c .rare-verb-at .ensures)
 
 pub verb-at-spec : {M : Type 1} → statement M
 verb-at-spec =

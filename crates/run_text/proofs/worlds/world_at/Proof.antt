@@ -34,8 +34,11 @@ bit-of-requires c κs =
 
 add-world : tie.Need-add-world Inv-loop μ-loop
 add-world c =
-    let i = c .before .before .before .before .before .before .loop in
-    record { fits = listed-fits _ _ _ _ _ _ _ (i .inv) (c .before .before .before .before .before .loop-test .taken) (c .before .before .before .before .member-at .ensures) _ _ (c .before .before .b .given .1) (c .bit-of .ensures) (c .before .before .before .before .before .before .before .before .pre) }
+    let way = c .before .before .before in
+    let at-loop = way .before .before .before in
+    let start = at-loop .before .before in
+    let i = at-loop .loop in
+    record { fits = listed-fits _ _ _ _ _ _ _ (i .inv) (c .before .before .before .before .before .loop-test .taken) (c .before .before .before .before .member-at .ensures) _ _ (c .before .before .b .given .1) (c .bit-of .ensures) (start .pre) }
 
 byte-at-requires : tie.Need-byte-at-requires Inv-loop μ-loop
 byte-at-requires c κs = search needs
@@ -45,9 +48,14 @@ returns-2 c = search listed-last
 
 add-at : tie.Need-add-at Inv-loop μ-loop
 add-at c =
-    let s = c .before .before .before .before .before .before .before .before .before .before in
-    let i = c .before .before .before .before .before .before .before .before .loop in
-    omega (arith, listed-next _ _ _ _ _ _ _ (i .inv) (c .before .before .before .before .before .before .before .loop-test .taken) (c .before .before .before .before .before .before .member-at .ensures) _ _ (c .before .before .before .before .b .given .1) (c .before .before .bit-of .ensures) (c .before .byte-at .ensures) (c .if1 .left), s .good .0 .0)
+    let way = c .before .before .before in
+    let at-member-at = way .before .before .before in
+    let at-loop-test = at-member-at .before in
+    let at-loop = at-loop-test .before in
+    let there = at-loop .before .before in
+    let s = there in
+    let i = at-loop .loop in
+    omega (arith, listed-next _ _ _ _ _ _ _ (i .inv) (at-loop-test .loop-test .taken) (at-member-at .member-at .ensures) _ _ (c .before .before .before .before .b .given .1) (c .before .before .bit-of .ensures) (c .before .byte-at .ensures) (c .if1 .left), s .good .0 .0)
 
 sub-room : tie.Need-sub-room Inv-loop μ-loop
 sub-room c = search needs

@@ -56,7 +56,10 @@ slice-aggregate-store-two c = search needs
 
 store-two-requires : tie.Need-store-two-requires
 unfolding stepText
-store-two-requires c κs = rw (c .before .before .before .step6 .given .1) at (c .before .before .before .before .before .before .pre)
+store-two-requires c κs =
+    let way = c .before .before .before in
+    let start = way .before .before .before in
+    rw (c .before .before .before .step6 .given .1) at (start .pre)
 
 enum-known-step-7 : tie.Need-enum-known-step-7
 enum-known-step-7 c = search needs
@@ -66,7 +69,10 @@ slice-aggregate-store-two-2 c = search needs
 
 store-two-requires-2 : tie.Need-store-two-requires-2
 unfolding stepText
-store-two-requires-2 c κs = rw (c .before .before .before .step7 .given .1) at (c .before .before .before .before .before .before .pre)
+store-two-requires-2 c κs =
+    let way = c .before .before .before in
+    let start = way .before .before .before in
+    rw (c .before .before .before .step7 .given .1) at (start .pre)
 
 same-length : tie.Need-same-length
 same-length c = search needs
@@ -81,7 +87,9 @@ same-length-2 c = search needs
 returns-2 : tie.Need-returns-2
 unfolding stepText
 returns-2 c =
-    let s = c .before .before .before .before .before .before in
+    let way = c .before .before .before in
+    let there = way .before .before .before in
+    let s = there in
     rw (s .step2 .given .1) (put-last _ (c .before .before .put-field .ensures) (rw (s .step2 .given .1) at (s .before .before .before .pre)))
 
 same-length-3 : tie.Need-same-length-3
@@ -90,7 +98,9 @@ same-length-3 c = search needs
 returns-3 : tie.Need-returns-3
 unfolding stepText
 returns-3 c =
-    let s = c .before .before .before .before .before .before in
+    let way = c .before .before .before in
+    let there = way .before .before .before in
+    let s = there in
     rw (s .step3 .given .1) (put-last _ (c .before .before .put-field2 .ensures) (rw (s .step3 .given .1) at (s .before .before .before .pre)))
 
 same-length-4 : tie.Need-same-length-4
@@ -99,7 +109,9 @@ same-length-4 c = search needs
 returns-4 : tie.Need-returns-4
 unfolding stepText
 returns-4 c =
-    let s = c .before .before .before .before .before .before in
+    let way = c .before .before .before in
+    let there = way .before .before .before in
+    let s = there in
     rw (s .step4 .given .1) (put-last _ (c .before .before .put-field3 .ensures) (rw (s .step4 .given .1) at (s .before .before .before .pre)))
 
 same-length-5 : tie.Need-same-length-5
@@ -108,7 +120,9 @@ same-length-5 c = search needs
 returns-5 : tie.Need-returns-5
 unfolding stepText
 returns-5 c =
-    let s = c .before .before .before .before .before .before in
+    let way = c .before .before .before in
+    let there = way .before .before .before in
+    let s = there in
     rw (s .step5 .given .1) (put-last _ (c .before .before .put-field4 .ensures) (rw (s .step5 .given .1) at (s .before .before .before .pre)))
 
 same-length-6 : tie.Need-same-length-6
@@ -116,14 +130,20 @@ same-length-6 c = search needs
 
 returns-6 : tie.Need-returns-6
 unfolding stepText
-returns-6 c = rw (c .before .before .before .before .before .before .step6 .given .1) (c .before .before .store-two .ensures)
+returns-6 c =
+    let way = c .before .before .before in
+    let at-step6 = way .before .before .before in
+    rw (at-step6 .step6 .given .1) (c .before .before .store-two .ensures)
 
 same-length-7 : tie.Need-same-length-7
 same-length-7 c = search needs
 
 returns-7 : tie.Need-returns-7
 unfolding stepText
-returns-7 c = rw (c .before .before .before .before .before .before .step7 .given .1) (c .before .before .store-two2 .ensures)
+returns-7 c =
+    let way = c .before .before .before in
+    let at-step7 = way .before .before .before in
+    rw (at-step7 .step7 .given .1) (c .before .before .store-two2 .ensures)
 
 pub store-step-spec : {M : Type 1} → statement M
 store-step-spec =

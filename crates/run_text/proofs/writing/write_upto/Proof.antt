@@ -33,19 +33,32 @@ returns-2 c = no-room _ _ _ _ (c .before .before .before .before .before .is-wri
 
 store-step-requires : tie.Need-store-step-requires
 store-step-requires c κs =
-    let s = c .before .before .before .before .before .before .before .before in
-    omega (arith, has-room (s .args .limit) (s .args .line) (now (s .args .room)) (s .args .at) (c .before .before .before .before .before .before .is-writable .ensures) (c .before .before .if1 .left) (c .before .before .before .before .before .step-length .ensures) (c .before .before .before .has-room .ensures) (c .before .if2 .left))
+    let way = c .before .before .before in
+    let at-is-writable = way .before .before .before in
+    let there = at-is-writable .before .before in
+    let s = there in
+    omega (arith, has-room (s .args .limit) (s .args .line) (now (s .args .room)) (s .args .at) (at-is-writable .is-writable .ensures) (c .before .before .if1 .left) (c .before .before .before .before .before .step-length .ensures) (c .before .before .before .has-room .ensures) (c .before .if2 .left))
 
 slice-write-room : tie.Need-slice-write-room
 slice-write-room c =
-    let s = c .before .before .before .before .before .before .before .before .before .before .before in
-    omega (arith, has-room (s .args .limit) (s .args .line) (now (s .args .room)) (s .args .at) (c .before .before .before .before .before .before .before .before .before .is-writable .ensures) (c .before .before .before .before .before .if1 .left) (c .before .before .before .before .before .before .before .before .step-length .ensures) (c .before .before .before .before .before .before .has-room .ensures) (c .before .before .before .before .if2 .left), c .before .before .store-step .ensures .place, stored-length (c .before .before .store-step .ensures))
+    let way = c .before .before .before in
+    let at-has-room = way .before .before .before in
+    let at-step-length = at-has-room .before .before in
+    let at-is-writable = at-step-length .before in
+    let there = at-is-writable .before .before in
+    let s = there in
+    omega (arith, has-room (s .args .limit) (s .args .line) (now (s .args .room)) (s .args .at) (at-is-writable .is-writable .ensures) (c .before .before .before .before .before .if1 .left) (at-step-length .step-length .ensures) (at-has-room .has-room .ensures) (c .before .before .before .before .if2 .left), c .before .before .store-step .ensures .place, stored-length (c .before .before .store-step .ensures))
 
 same-length-3 : tie.Need-same-length-3
 same-length-3 c = search needs
 
 returns-3 : tie.Need-returns-3
-returns-3 c = line-written _ _ _ _ (c .before .before .before .before .before .before .before .before .before .is-writable .ensures) (c .before .before .before .before .before .if1 .left) (c .before .before .before .before .before .before .before .before .step-length .ensures) (c .before .before .before .before .before .before .has-room .ensures) (c .before .before .before .before .if2 .left) (c .before .before .store-step .ensures)
+returns-3 c =
+    let way = c .before .before .before in
+    let at-has-room = way .before .before .before in
+    let at-step-length = at-has-room .before .before in
+    let at-is-writable = at-step-length .before in
+    line-written _ _ _ _ (at-is-writable .is-writable .ensures) (c .before .before .before .before .before .if1 .left) (at-step-length .step-length .ensures) (at-has-room .has-room .ensures) (c .before .before .before .before .if2 .left) (c .before .before .store-step .ensures)
 
 pub write-upto-spec : {M : Type 1} → statement M
 write-upto-spec =

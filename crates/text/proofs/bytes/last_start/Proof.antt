@@ -21,7 +21,10 @@ word-of-4-requires-2 : tie.Need-word-of-4-requires-2
 word-of-4-requires-2 c κs = omega arith
 
 returns-2 : tie.Need-returns-2
-returns-2 c = compared-other _ _ _ _ _ _ (compared-none _ _ _ _ (c .before .before .before .before .before .before .pre .0) (c .before .before .before .before .before .before .pre .1)) 4 (c .before .before .before .if1 .left) (c .before .before .word-of-4 .ensures) (c .before .word-of-42 .ensures) (c .if2 .taken)
+returns-2 c =
+    let way = c .before .before .before in
+    let start = way .before .before .before in
+    compared-other _ _ _ _ _ _ (compared-none _ _ _ _ (start .pre .0) (start .pre .1)) 4 (c .before .before .before .if1 .left) (c .before .before .word-of-4 .ensures) (c .before .word-of-42 .ensures) (c .if2 .taken)
 
 add-bytes-start : tie.Need-add-bytes-start
 add-bytes-start c = omega arith
@@ -33,7 +36,10 @@ bytes-start-requires-2 : tie.Need-bytes-start-requires-2
 bytes-start-requires-2 c κs = (omega arith, omega arith)
 
 returns-3 : tie.Need-returns-3
-returns-3 c = compared-left _ _ _ _ _ _ (compared-word _ _ _ _ _ _ (compared-none _ _ _ _ (c .before .before .before .before .before .before .before .pre .0) (c .before .before .before .before .before .before .before .pre .1)) 4 (c .before .before .before .before .if1 .left) (c .before .before .before .word-of-4 .ensures) (c .before .before .word-of-42 .ensures) (c .before .if2 .left)) (c .bytes-start2 .ensures)
+returns-3 c =
+    let way = c .before .before .before .before in
+    let start = way .before .before .before in
+    compared-left _ _ _ _ _ _ (compared-word _ _ _ _ _ _ (compared-none _ _ _ _ (start .pre .0) (start .pre .1)) 4 (c .before .before .before .before .if1 .left) (c .before .before .before .word-of-4 .ensures) (c .before .before .word-of-42 .ensures) (c .before .if2 .left)) (c .bytes-start2 .ensures)
 
 pub last-start-spec : {M : Type 1} → statement M
 last-start-spec =

@@ -32,13 +32,17 @@ returns c = passed-on _ _ _ (c .before .before .before .before .before .loop .in
 
 add-i : tie.Need-add-i Inv-loop μ-loop
 add-i c =
-    let h : c .before .before .before .before .loop .i + 16 ≤ length (now (c .before .before .before .before .before .before .args .text)) = room-yes (c .before .before .before .has-room .ensures) (c .before .before .if1 .taken) in
-    omega (arith, c .before .before .before .before .before .before .good .0 .0)
+    let way = c .before .before .before in
+    let start = way .before .before .before in
+    let h : c .before .before .before .before .loop .i + 16 ≤ length (now (start .args .text)) = room-yes (c .before .before .before .has-room .ensures) (c .before .before .if1 .taken) in
+    omega (arith, start .good .0 .0)
 
 loop-less : tie.Need-loop-less Inv-loop μ-loop
 loop-less c =
-    let h : c .before .before .before .before .loop .i + 16 ≤ length (now (c .before .before .before .before .before .before .args .text)) = room-yes (c .before .before .before .has-room .ensures) (c .before .before .if1 .taken) in
-    omega (arith, c .before .before .before .before .before .before .good .0 .0)
+    let way = c .before .before .before in
+    let start = way .before .before .before in
+    let h : c .before .before .before .before .loop .i + 16 ≤ length (now (start .args .text)) = room-yes (c .before .before .before .has-room .ensures) (c .before .before .if1 .taken) in
+    omega (arith, start .good .0 .0)
 
 loop-again : tie.Need-loop-again Inv-loop μ-loop
 loop-again c = passed-many _ _ _ (c .before .before .before .before .loop .inv) 16 (c .before .ten-in-16 .ensures (c .if2 .left))
