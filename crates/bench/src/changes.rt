@@ -1,4 +1,5 @@
-// What a message and a notice make of a bench.
+// What a message and a notice make of a bench, by value: the form that document 01 names. The tables write the one word that changes instead; that
+// both ways are one thing is `arrive-by-value` and `notice-by-value` of crate `tables`.
 
 ghost use mathlib.Core.Path.{_≡_};
 ghost use Prim.Native.Nat.{_<_};

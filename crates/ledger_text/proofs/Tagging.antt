@@ -7,9 +7,9 @@ use lib.ListN.{length, getD}
 use borrow.Author.Tests.{lt-ltb, le-ltb, le-leb, lt-leb, eq-eqb, ne-eqb}
 use Rattle.spelling.specs.declared.Found.{Found}
 use Rattle.spelling.specs.declared.Found.the-variants.{Got, Nothing}
-use Rattle.spelling.specs.Fields.{digitAt}
-use Rattle.spelling.proofs.Digits.{digit-low, digit-high, digit-is, digit-within}
-use Rattle.spelling.specs.LedgerReading.{tagBelow, moreTag, tagAt}
+use Rattle.spelling.specs.Fields.{digitAt, below}
+use Rattle.spelling.proofs.Digits.{digit-low, digit-high, digit-is, digit-within, below-turn, below-most}
+use Rattle.spelling.specs.LedgerReading.{moreTag, tagAt}
 
 -- ---- a digit, by the byte that stands there
 
@@ -24,32 +24,6 @@ module _ (line : List ℕ) (at c : ℕ) (e : c ≡ getD line at 0) where
   byte-digit h k = rw e (digit-is line at (omega arith) (omega arith))
 
 -- ---- further digits
-
-below-turn : (k v d : ℕ) → (k ≡ 0 → ⊥) → v < tagBelow k → d < 10 → v * 10 + d < tagBelow (k - 1)
-below-turn zero v d n h g = absurd (n refl)
-below-turn (suc zero) v d n h g = omega arith
-below-turn (suc (suc zero)) v d n h g = omega arith
-below-turn (suc (suc (suc zero))) v d n h g = omega arith
-below-turn (suc (suc (suc (suc zero)))) v d n h g = omega arith
-below-turn (suc (suc (suc (suc (suc zero))))) v d n h g = omega arith
-below-turn (suc (suc (suc (suc (suc (suc zero)))))) v d n h g = omega arith
-below-turn (suc (suc (suc (suc (suc (suc (suc zero))))))) v d n h g = omega arith
-below-turn (suc (suc (suc (suc (suc (suc (suc (suc zero)))))))) v d n h g = omega arith
-below-turn (suc (suc (suc (suc (suc (suc (suc (suc (suc zero))))))))) v d n h g = omega arith
-below-turn (suc (suc (suc (suc (suc (suc (suc (suc (suc (suc k)))))))))) v d n h g = absurd (omega arith)
-
-below-most : (k : ℕ) → tagBelow k ≤ 10000000000
-below-most zero = omega arith
-below-most (suc zero) = omega arith
-below-most (suc (suc zero)) = omega arith
-below-most (suc (suc (suc zero))) = omega arith
-below-most (suc (suc (suc (suc zero)))) = omega arith
-below-most (suc (suc (suc (suc (suc zero))))) = omega arith
-below-most (suc (suc (suc (suc (suc (suc zero)))))) = omega arith
-below-most (suc (suc (suc (suc (suc (suc (suc zero))))))) = omega arith
-below-most (suc (suc (suc (suc (suc (suc (suc (suc zero)))))))) = omega arith
-below-most (suc (suc (suc (suc (suc (suc (suc (suc (suc zero))))))))) = omega arith
-below-most (suc (suc (suc (suc (suc (suc (suc (suc (suc (suc k)))))))))) = omega arith
 
 module _ (line : List ℕ) (at v d : ℕ) (e : d ≡ digitAt line at) where
   stop : (k : ℕ) → 10 ≤ d → v ≤ 4294967295 → moreTag k line at v ≡ Got v at
@@ -74,13 +48,13 @@ module _ (line : List ℕ) (at v d : ℕ) (e : d ≡ digitAt line at) where
 -- the tag from `from` on is what up to `left` further digits make of v at `at`
 pub record Reading (more : ℕ) (line : List ℕ) (from first at v left : ℕ) : Type 0 where
   pub inside : at ≤ length line
-  pub under : v < tagBelow left
+  pub under : v < below 10 left
   pub fits : v < 10000000000
   pub rest : moreTag more line from first ≡ moreTag left line at v
 
 module _ (more : ℕ) (line : List ℕ) (from first : ℕ) where
-  pub reading-none : from ≤ length line → first < tagBelow more → Reading more line from first from first more
-  reading-none h g = record { inside = h; under = g; fits = omega (arith, below-most more); rest = refl }
+  pub reading-none : from ≤ length line → first < below 10 more → Reading more line from first from first more
+  reading-none h g = record { inside = h; under = g; fits = omega (arith, below-most 10 more); rest = refl }
 
   module _ (at v left : ℕ) (p : Reading more line from first at v left) (d : ℕ) (e : d ≡ digitAt line at) where
     pub reading-large : 10 ≤ d → 4294967295 < v → Nothing ≡ moreTag more line from first
@@ -94,8 +68,8 @@ module _ (more : ℕ) (line : List ℕ) (from first : ℕ) where
 
     pub reading-more : d < 10 → (left ≡ 0 → ⊥) → Reading more line from first (at + 1) (v * 10 + d) (left - 1)
     reading-more h n =
-        let u = below-turn left v d n (p .under) h in
-        record { inside = digit-within line at e h; under = u; fits = omega (arith, below-most (left - 1)); rest = p .rest ∙ turn line at v d e left h n }
+        let u = below-turn 10 left v d n (p .under) h in
+        record { inside = digit-within line at e h; under = u; fits = omega (arith, below-most 10 (left - 1)); rest = p .rest ∙ turn line at v d e left h n }
 
 -- ---- a tag
 

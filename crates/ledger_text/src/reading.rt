@@ -2,8 +2,8 @@
 ghost use mathlib.Core.Path.{_≡_};
 ghost use Prim.Native.Nat.{_≤_, _<_};
 ghost use lib.ListN.{length};
-ghost use Rattle.spelling.specs.Fields.{digitAt};
-ghost use Rattle.spelling.specs.LedgerReading.{tagBelow, moreTag, tagAt, tagFieldAt, joinAt, sweepAt, closeAt, endAt, handAt, stepAt, ledgerSaidOf};
+ghost use Rattle.spelling.specs.Fields.{digitAt, below};
+ghost use Rattle.spelling.specs.LedgerReading.{moreTag, tagAt, tagFieldAt, joinAt, sweepAt, closeAt, endAt, handAt, stepAt, ledgerSaidOf};
 use kinds::BenchNo;
 use kinds::SlotNo;
 use spelling::Found;
@@ -29,7 +29,7 @@ fn digit_at(line: &[u8], at: usize) -> u64
 
 // A tag whose digits so far make `first`, and of which up to `more` further ones may follow.
 fn more_tag(line: &[u8], from: usize, first: u64, more: usize) -> Found
-    requires { ⌜ (from ≤ length (now line)) × (first < tagBelow more) ⌝ }
+    requires { ⌜ (from ≤ length (now line)) × (first < below 10 more) ⌝ }
     ensures { λ r. ⌜ r ≡ moreTag more (now (line .entry)) from first ⌝ }
 {
     let mut at = from;

@@ -1,14 +1,15 @@
 -- Numbers read: a turn of the reader, as the code takes it. Assumes nothing.
-use Prim.Native.Nat.{ℕ, zero, suc, _+_, _-_, _*_, _≤_, _<_}
+use Prim.Native.Nat.{ℕ, zero, suc, _+_, _-_, _*_, _≤_, _<_, _^_}
+use native.Mathlib.Nat.{pow-suc, pow-le-pow-right, zero-lt-suc}
 use native.Mathlib.Omega.{arith}
 use native.Mathlib.Numerals.{sub-one}
 use mathlib.Core.Bool.{cond}
 use mathlib.Core.List.{List}
 use mathlib.Core.Logic.{⊎-elim}
 use mathlib.Core.Path.{_≡_, refl, sym, ap, _∙_, subst}
-use lib.Dec.{eqb}
+use lib.Dec.{eqb, leb}
 use lib.ListN.{length, getD, List·getD-eq-default}
-use borrow.Author.Tests.{lt-ltb, le-ltb, le-leb, lt-leb, eq-eqb, ne-eqb}
+use borrow.Author.Tests.{lt-ltb, le-ltb, le-leb, lt-leb, eq-eqb, ne-eqb, leb-true}
 use Rattle.common.proofs.Tests.{split}
 use Rattle.spelling.proofs.Places.{le-or-lt}
 use Rattle.spelling.specs.declared.Found.{Found}
@@ -62,32 +63,33 @@ digit-within text at e h =
     ⊎-elim (λ (out : length text ≤ at). let z : getD text at 0 ≡ 0 = List·getD-eq-default text 0 out in let bad : _ ≡ 10 = rw z at e in omega arith)
     (λ (w : at < length text). omega arith) (le-or-lt (length text) at)
 
-pub below-turn : (r v d : ℕ) → (r ≡ 0 → ⊥) → v < below r → d < 10 → v * 10 + d < below (r - 1)
-below-turn zero v d n h k = absurd (n refl)
-below-turn (suc zero) v d n h k = omega arith
-below-turn (suc (suc zero)) v d n h k = omega arith
-below-turn (suc (suc (suc zero))) v d n h k = omega arith
-below-turn (suc (suc (suc (suc zero)))) v d n h k = omega arith
-below-turn (suc (suc (suc (suc (suc r))))) v d n h k = omega arith
+-- one digit more, and no number is longer than its width
+pub below-turn : (w r v d : ℕ) → (r ≡ 0 → ⊥) → v < below w r → d < 10 → v * 10 + d < below w (r - 1)
+unfolding below
+below-turn w r v d n h k = split (leb r w)
+    (λ e.
+    let i = leb-true r w e in
+    let q : w - (r - 1) ≡ suc (w - r) = omega arith in
+    let g : v < 10 ^ (w - r) = rw e at h in
+    rw (le-leb (r - 1) w (omega arith), q) (omega (arith, pow-suc 10 (w - r))))
+    (λ e. let g : v < 0 = rw e at h in absurd (omega arith))
 
-pub below-most : (r : ℕ) → below r ≤ 100000
-below-most zero = omega arith
-below-most (suc zero) = omega arith
-below-most (suc (suc zero)) = omega arith
-below-most (suc (suc (suc zero))) = omega arith
-below-most (suc (suc (suc (suc zero)))) = omega arith
-below-most (suc (suc (suc (suc (suc r))))) = omega arith
+pub below-most : (w r : ℕ) → below w r ≤ 10 ^ w
+unfolding below
+below-most w r = split (leb r w)
+    (λ e. rw e (pow-le-pow-right (zero-lt-suc 9) (omega arith)))
+    (λ e. rw e (omega arith))
 
 -- the reader stands at `at` with v, and up to `left` digits more may follow, after it stood at `from` with `first` and `room`
 pub record Counted (room : ℕ) (text : List ℕ) (from first at v left : ℕ) : Type 0 where
   pub inside : at ≤ length text
-  pub under : v < below left
+  pub under : v < below 5 left
   pub fits : v < 100000
   pub rest : moreDigits room text from first ≡ moreDigits left text at v
 
 module _ (room : ℕ) (text : List ℕ) (from first : ℕ) where
-  pub counted-none : from ≤ length text → first < below room → Counted room text from first from first room
-  counted-none h k = record { inside = h; under = k; fits = omega (arith, below-most room); rest = refl }
+  pub counted-none : from ≤ length text → first < below 5 room → Counted room text from first from first room
+  counted-none h k = record { inside = h; under = k; fits = omega (arith, below-most 5 room); rest = refl }
 
   module _ (at v left : ℕ) (p : Counted room text from first at v left) {d : ℕ} (e : d ≡ digitAt text at) where
     pub counted-stop : 10 ≤ d → Got v at ≡ moreDigits room text from first
@@ -98,8 +100,8 @@ module _ (room : ℕ) (text : List ℕ) (from first : ℕ) where
 
     pub counted-more : d < 10 → (left ≡ 0 → ⊥) → Counted room text from first (at + 1) (v * 10 + d) (left - 1)
     counted-more h n =
-        let u = below-turn left v d n (p .under) h in
-        record { inside = digit-within text at e h; under = u; fits = omega (arith, below-most (left - 1)); rest = p .rest ∙ more-turn left text at v e h n }
+        let u = below-turn 5 left v d n (p .under) h in
+        record { inside = digit-within text at e h; under = u; fits = omega (arith, below-most 5 (left - 1)); rest = p .rest ∙ more-turn left text at v e h n }
 
 -- ---- a number
 
@@ -118,8 +120,9 @@ module _ (text : List ℕ) (at : ℕ) {d : ℕ} (e : d ≡ digitAt text at) wher
 
   -- in one, by how many digits may follow
   module _ (h : d < 10) {n : ℕ} (q : n ≡ cond (eqb d 0) 0 4) where
-    pub number-room : d < below n
-    number-room = subst (λ (k : ℕ). d < below k) (sym q) (split (eqb d 0) (λ z. rw z (omega arith)) (λ z. rw z (omega arith)))
+    pub number-room : d < below 5 n
+    unfolding below
+    number-room = subst (λ (k : ℕ). d < below 5 k) (sym q) (split (eqb d 0) (λ z. rw z (omega arith)) (λ z. rw z (omega arith)))
 
     pub number-some : {r : Found} → r ≡ moreDigits n text (at + 1) d → r ≡ numberAt text at
     unfolding numberAt

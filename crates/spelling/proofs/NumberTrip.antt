@@ -1,13 +1,15 @@
 -- Numbers there and back: what `digits` writes of a number up to 99,999 `numberAt` reads, and what it reads is what `digits` writes. Assumes nothing.
-use Prim.Native.Nat.{ℕ, zero, suc, _+_, _-_, _*_, _/_, _%_, _≤_, _<_}
+use Prim.Native.Nat.{ℕ, zero, suc, _+_, _-_, _*_, _/_, _%_, _≤_, _<_, _^_}
+use native.Mathlib.Nat.{pow-le-pow-right, zero-lt-suc}
 use native.Mathlib.Omega.{arith}
 use native.Mathlib.Numerals.{sub-one}
 use mathlib.Core.List.{List, [], _∷_, _++_, append-assoc}
 use mathlib.Core.Logic.{⊎-elim}
 use mathlib.Core.Path.{_≡_, refl, sym, ap, _∙_}
+use lib.Dec.{leb}
 use lib.ListN.{length, getD, drop, length-append}
 use borrow.Author.Tests.{le-leb, lt-leb}
-use Rattle.common.proofs.Tests.{clash}
+use Rattle.common.proofs.Tests.{clash, split}
 use Rattle.spelling.specs.declared.Found.the-variants.{Got, Nothing}
 use Rattle.spelling.specs.Numbers.{digits}
 use Rattle.spelling.specs.Fields.{digitOf, digitAt, moreDigits, numberAt, below}
@@ -107,24 +109,26 @@ pub record NumberIs (text : List ℕ) (at n next : ℕ) : Type 0 where
   pub spans : Spans text at (digits n) next
   pub small : n < 100000
 
-below-suc : (r v : ℕ) → v < below (suc r) → v < 10000
-below-suc zero v h = omega arith
-below-suc (suc zero) v h = omega arith
-below-suc (suc (suc zero)) v h = omega arith
-below-suc (suc (suc (suc zero))) v h = omega arith
-below-suc (suc (suc (suc (suc r)))) v h = omega arith
+below-suc : (r v : ℕ) → v < below 5 (suc r) → v < 10000
+unfolding below
+below-suc r v h = split (leb (suc r) 5)
+    (λ e.
+    let g : v < 10 ^ (5 - suc r) = rw e at h in
+    let top : 10 ^ (5 - suc r) ≤ 10 ^ 4 = pow-le-pow-right (zero-lt-suc 9) {j = 4} (omega arith) in
+    omega arith)
+    (λ e. let g : v < 0 = rw e at h in absurd (omega arith))
 
-stopped : (r : ℕ) (text : List ℕ) (from at v n next : ℕ) → v < below r → Spans text from (digits v) at → 10 ≤ digitAt text at → moreDigits r text at v ≡ Got n next → NumberIs text from n next
+stopped : (r : ℕ) (text : List ℕ) (from at v n next : ℕ) → v < below 5 r → Spans text from (digits v) at → 10 ≤ digitAt text at → moreDigits r text at v ≡ Got n next → NumberIs text from n next
 stopped r text from at v n next h s stop got =
     let same : Got v at ≡ Got n next = sym (more-stop r text at v refl stop) ∙ got in
     let a : v ≡ n = cc in
     let b : at ≡ next = cc in
-    record { spans = rw (← a, ← b) s; small = omega (arith, below-most r) }
+    record { spans = rw (← a, ← b) s; small = omega (arith, below-most 5 r) }
 
 pub none-found : {A : Type 0} {n next : ℕ} → Nothing ≡ Got n next → A
 none-found e = clash (cc)
 
-more-sound : (r : ℕ) (text : List ℕ) (from at v n next : ℕ) → 0 < v → v < below r → Spans text from (digits v) at → moreDigits r text at v ≡ Got n next → NumberIs text from n next
+more-sound : (r : ℕ) (text : List ℕ) (from at v n next : ℕ) → 0 < v → v < below 5 r → Spans text from (digits v) at → moreDigits r text at v ≡ Got n next → NumberIs text from n next
 more-sound zero text from at v n next pos h s got =
     ⊎-elim (λ (stop : 10 ≤ digitAt text at). stopped 0 text from at v n next h s stop got)
     (λ (d : digitAt text at < 10). none-found (sym (more-none text at v refl d) ∙ got))
@@ -134,11 +138,12 @@ more-sound (suc r) text from at v n next pos h s got =
     (λ (d : digitAt text at < 10).
     let x = digitAt text at in
     let s′ : Spans text from (digits (v * 10 + x)) (at + 1) = rw (digits-snoc v x pos (below-suc r v h) d) (spans-then s (cut-digit text at d)) in
-    let top : v * 10 + x < below r = rw sub-one at (below-turn (suc r) v x (λ z. omega arith) h d) in
+    let top : v * 10 + x < below 5 r = rw sub-one at (below-turn 5 (suc r) v x (λ z. omega arith) h d) in
     more-sound r text from (at + 1) (v * 10 + x) n next (omega arith) top s′ (sym (more-step r text at v refl d) ∙ got))
     (le-or-lt 10 (digitAt text at))
 
 pub number-sound : (text : List ℕ) (at n next : ℕ) → numberAt text at ≡ Got n next → NumberIs text at n next
+unfolding below
 number-sound text at n next got =
     ⊎-elim (λ (stop : 10 ≤ digitAt text at). none-found (number-none text at refl stop ∙ got))
     (λ (d : digitAt text at < 10).

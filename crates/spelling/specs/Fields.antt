@@ -1,5 +1,5 @@
 -- How keys, numbers and the ends of lines are read, place by place, in the way of the code. This file need not be believed for run text: see Reading.
-use Prim.Native.Nat.{ℕ, zero, suc, _+_, _-_, _*_}
+use Prim.Native.Nat.{ℕ, zero, suc, _+_, _-_, _*_, _^_}
 use mathlib.Core.Bool.{Bool, true, false, cond}
 use mathlib.Core.List.{List, [], _∷_}
 use lib.Dec.{leb, ltb, eqb}
@@ -33,14 +33,9 @@ moreDigits (suc room) text at v = cond (ltb (digitAt text at) 10) (moreDigits ro
 unfoldable pub numberAt : List ℕ → ℕ → Found
 numberAt text at = cond (ltb (digitAt text at) 10) (moreDigits (cond (eqb (digitAt text at) 0) 0 4) text (at + 1) (digitAt text at)) Nothing
 
--- what a number is below when `room` more digits may follow
-abbrev pub below : ℕ → ℕ
-below zero = 100000
-below (suc zero) = 10000
-below (suc (suc zero)) = 1000
-below (suc (suc (suc zero))) = 100
-below (suc (suc (suc (suc zero)))) = 10
-below (suc (suc (suc (suc (suc r))))) = 0
+-- what a number of up to `width` digits is below when `room` more may follow; more than the width has cannot
+unfoldable pub below : ℕ → ℕ → ℕ
+below width room = cond (leb room width) (10 ^ (width - room)) 0
 
 -- a key and a number behind it
 unfoldable pub fieldAt : List ℕ → List ℕ → ℕ → Found

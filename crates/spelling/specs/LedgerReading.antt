@@ -20,20 +20,6 @@ unfoldable pub moreTag : ℕ → List ℕ → ℕ → ℕ → Found
 moreTag zero line at v = cond (ltb (digitAt line at) 10) Nothing (cond (leb v 4294967295) (Got v at) Nothing)
 moreTag (suc k) line at v = cond (ltb (digitAt line at) 10) (moreTag k line (at + 1) (v * 10 + digitAt line at)) (cond (leb v 4294967295) (Got v at) Nothing)
 
--- what a tag is below when k more digits may follow
-abbrev pub tagBelow : ℕ → ℕ
-tagBelow zero = 10000000000
-tagBelow (suc zero) = 1000000000
-tagBelow (suc (suc zero)) = 100000000
-tagBelow (suc (suc (suc zero))) = 10000000
-tagBelow (suc (suc (suc (suc zero)))) = 1000000
-tagBelow (suc (suc (suc (suc (suc zero))))) = 100000
-tagBelow (suc (suc (suc (suc (suc (suc zero)))))) = 10000
-tagBelow (suc (suc (suc (suc (suc (suc (suc zero))))))) = 1000
-tagBelow (suc (suc (suc (suc (suc (suc (suc (suc zero)))))))) = 100
-tagBelow (suc (suc (suc (suc (suc (suc (suc (suc (suc zero))))))))) = 10
-tagBelow (suc (suc (suc (suc (suc (suc (suc (suc (suc (suc k)))))))))) = 0
-
 -- no digit follows a first 0, and at most 9 another
 unfoldable pub tagAt : List ℕ → ℕ → Found
 tagAt line at = cond (ltb (digitAt line at) 10) (moreTag (cond (eqb (digitAt line at) 0) 0 9) line (at + 1) (digitAt line at)) Nothing

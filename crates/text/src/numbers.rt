@@ -27,7 +27,7 @@ fn digit_at(text: &[u8], at: usize) -> u32
 
 // The number whose digits so far make `first`, and of which up to `room` more may follow.
 fn more_digits(text: &[u8], from: usize, first: u32, room: usize) -> Found
-    requires { ⌜ (from ≤ length (now text)) × (first < below room) ⌝ }
+    requires { ⌜ (from ≤ length (now text)) × (first < below 5 room) ⌝ }
     ensures { λ r. ⌜ r ≡ moreDigits room (now (text .entry)) from first ⌝ }
 {
     let mut at = from;

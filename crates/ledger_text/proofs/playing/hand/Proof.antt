@@ -1,4 +1,4 @@
--- `script::playing::hand` meets its contract: the tags stand at the front of the whole buffer.
+-- `playing::hand` meets its contract: the tags stand at the front of the whole buffer.
 use native.Mathlib.Omega.{arith}
 use lib.ListN.{length-take}
 use Rattle.ledger_text.proofs.OnLedgers.{hand-written, hand-refused}

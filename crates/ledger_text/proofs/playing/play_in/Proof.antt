@@ -1,4 +1,4 @@
--- `script::playing::play_in` meets its contract: step by step.
+-- `playing::play_in` meets its contract: step by step.
 use Rattle.ledger_text.proofs.OnLedgers.{play-join, play-sweep, play-close, play-end, play-hand}
 use borrow.Author.Needs.{needs}
 use Rattle.ledger_text.proofs.playing.play_in.Statement.{statement}

@@ -1,4 +1,4 @@
--- `script::reading::close_at` meets its contract: by what is found.
+-- `reading::close_at` meets its contract: by what is found.
 use mathlib.Core.Path.{refl, sym, _∙_}
 use Rattle.spelling.specs.LedgerReading.{closeAt}
 use borrow.Author.Needs.{needs}

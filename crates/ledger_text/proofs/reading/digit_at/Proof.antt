@@ -1,4 +1,4 @@
--- `script::reading::digit_at` meets its contract: by the byte that stands there.
+-- `reading::digit_at` meets its contract: by the byte that stands there.
 use Rattle.ledger_text.proofs.Tagging.{byte-low, byte-high, byte-digit}
 use borrow.Author.Needs.{needs}
 use Rattle.ledger_text.proofs.reading.digit_at.Statement.{statement}

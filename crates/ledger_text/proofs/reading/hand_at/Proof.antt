@@ -1,4 +1,4 @@
--- `script::reading::hand_at` meets its contract: by what is found.
+-- `reading::hand_at` meets its contract: by what is found.
 use mathlib.Core.Path.{refl, sym, _∙_}
 use Rattle.spelling.specs.LedgerReading.{handAt}
 use borrow.Author.Needs.{needs}

@@ -1,4 +1,4 @@
--- `script::reading::join_at` meets its contract: by what is found at each place.
+-- `reading::join_at` meets its contract: by what is found at each place.
 use mathlib.Core.Path.{refl, sym, _∙_}
 use Rattle.spelling.specs.LedgerReading.{joinAt}
 use borrow.Author.Needs.{needs}

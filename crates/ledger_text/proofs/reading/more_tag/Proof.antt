@@ -1,4 +1,4 @@
--- `script::reading::more_tag` meets its contract: a turn takes one digit. Assumes nothing.
+-- `reading::more_tag` meets its contract: a turn takes one digit. Assumes nothing.
 use native.Mathlib.Omega.{arith}
 use Rattle.ledger_text.proofs.Tagging.{Reading, reading-none, reading-large, reading-stop, reading-over, reading-more}
 use borrow.Author.Needs.{needs}

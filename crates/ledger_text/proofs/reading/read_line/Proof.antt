@@ -1,4 +1,4 @@
--- `script::reading::read_line` meets its contract: by the step found, and whether the line ends with it.
+-- `reading::read_line` meets its contract: by the step found, and whether the line ends with it.
 use mathlib.Core.Path.{refl, sym, _∙_}
 use borrow.Author.Tests.{eq-eqb, ne-eqb}
 use Rattle.spelling.specs.LedgerReading.{ledgerSaidOf}

@@ -1,4 +1,4 @@
--- `script::reading::step_at` meets its contract: by the names that were tried.
+-- `reading::step_at` meets its contract: by the names that were tried.
 use mathlib.Core.Path.{refl, sym, _∙_}
 use Rattle.spelling.specs.LedgerReading.{stepAt}
 use borrow.Author.Needs.{needs}

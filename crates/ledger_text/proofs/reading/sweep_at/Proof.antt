@@ -1,4 +1,4 @@
--- `script::reading::sweep_at` meets its contract: by what is found at each place.
+-- `reading::sweep_at` meets its contract: by what is found at each place.
 use mathlib.Core.Path.{refl, sym, _∙_}
 use Rattle.spelling.specs.LedgerReading.{sweepAt}
 use borrow.Author.Needs.{needs}

@@ -1,5 +1,6 @@
--- `script::reading::tag_at` meets its contract: by its first digit.
+-- `reading::tag_at` meets its contract: by its first digit.
 use native.Mathlib.Omega.{arith}
+use Rattle.spelling.specs.Fields.{below}
 use Rattle.spelling.proofs.Digits.{digit-within}
 use Rattle.ledger_text.proofs.Tagging.{tag-none, tag-zero, tag-some}
 use borrow.Author.Needs.{needs}
@@ -16,6 +17,7 @@ add-more-tag : tie.Need-add-more-tag
 add-more-tag c = omega (arith, digit-within (c .before .before .before .before .args .line .now) (c .before .before .before .before .args .at) (c .before .before .digit-at .ensures) (c .before .if1 .left))
 
 more-tag-requires : tie.Need-more-tag-requires
+unfolding below
 more-tag-requires c κs = (omega (arith, digit-within (c .before .before .before .before .args .line .now) (c .before .before .before .before .args .at) (c .before .before .digit-at .ensures) (c .before .if1 .left)), omega arith)
 
 returns-2 : tie.Need-returns-2
@@ -25,6 +27,7 @@ add-more-tag-2 : tie.Need-add-more-tag-2
 add-more-tag-2 c = omega (arith, digit-within (c .before .before .before .before .args .line .now) (c .before .before .before .before .args .at) (c .before .before .digit-at .ensures) (c .before .if1 .left))
 
 more-tag-requires-2 : tie.Need-more-tag-requires-2
+unfolding below
 more-tag-requires-2 c κs = (omega (arith, digit-within (c .before .before .before .before .args .line .now) (c .before .before .before .before .args .at) (c .before .before .digit-at .ensures) (c .before .if1 .left)), omega arith)
 
 returns-3 : tie.Need-returns-3

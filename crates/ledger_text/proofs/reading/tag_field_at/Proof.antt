@@ -1,4 +1,4 @@
--- `script::reading::tag_field_at` meets its contract: by its key.
+-- `reading::tag_field_at` meets its contract: by its key.
 use native.Mathlib.Omega.{arith}
 use mathlib.Core.Path.{refl}
 use denote.Ref.{now}
