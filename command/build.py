@@ -75,13 +75,14 @@ def build(top, name):
     except OSError as error:
         raise Failure(NOT_BUILT, f"'{name}' has to be built first, and {target} cannot be written: {why(error)}; use a clone in a folder of your own") from None
     before = set(target.rglob("*"))
-    try:
-        with tempfile.TemporaryDirectory(prefix="funkenrille-") as room:
-            os.chmod(room, 0o711)  # where rt is root it runs a program as nobody, who has to get in
-            said = proved(top, name, room)
-    except BaseException:
-        clear(target, before)
-        raise
+    with stoppable():
+        try:
+            with tempfile.TemporaryDirectory(prefix="funkenrille-") as room:
+                os.chmod(room, 0o711)  # where rt is root it runs a program as nobody, who has to get in
+                said = proved(top, name, room)
+        except BaseException:
+            clear(target, before)
+            raise
     if said:
         say(f"'{name}' could not be built; the last lines of 'rt check {name}':")
         tell("".join(said[-SHOWN:]))
@@ -100,7 +101,7 @@ def clear(target, before):
 def proved(top, name, room):
     """Has rt build the program, and tells how far it is. Nothing is answered where it was built, and otherwise what rt said."""
     said = []
-    with stoppable(), Progress(name, len(crates_of(top, name))) as progress:
+    with Progress(name, len(crates_of(top, name))) as progress:
         child = subprocess.Popen(["rt", "check", name], cwd=top, stdin=subprocess.DEVNULL, stdout=subprocess.PIPE, stderr=subprocess.STDOUT, text=True,
                                  errors="replace", env={**os.environ, "TMPDIR": room}, start_new_session=True)
         try:
@@ -128,15 +129,22 @@ def end(child):
 
 @contextmanager
 def stoppable():
-    """While this holds, SIGTERM and SIGHUP break a build off as Ctrl-C does."""
+    """While this holds, a signal that would end the command raises Stopped, so that what was begun is taken away first."""
+    caught = [number for number in (signal.SIGINT, signal.SIGTERM, signal.SIGHUP) if signal.getsignal(number) == signal.SIG_DFL]
+
+    def handle(how):
+        for number in caught:
+            signal.signal(number, how)
+
     def stop(number, _):
+        handle(signal.SIG_IGN)  # a second Ctrl-C does not break off the taking away
         raise Stopped(number)
-    former = {number: signal.signal(number, stop) for number in (signal.SIGTERM, signal.SIGHUP)}
+
+    handle(stop)
     try:
         yield
     finally:
-        for number, handler in former.items():
-            signal.signal(number, handler)
+        handle(signal.SIG_DFL)
 
 
 class Stopped(BaseException):

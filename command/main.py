@@ -1,9 +1,12 @@
 """The command ./funkenrille: which words it knows, and what each does. docs/COMMAND.md says the same for readers."""
 
+import signal
 import sys
 
 if sys.version_info < (3, 10):
     sys.exit("funkenrille: this Python is older than 3.10")
+if signal.getsignal(signal.SIGINT) == signal.default_int_handler:
+    signal.signal(signal.SIGINT, signal.SIG_DFL)  # Ctrl-C ends the command at once; only a build has something to take away first
 
 from pathlib import Path
 
@@ -146,8 +149,6 @@ def main(words):
     except OSError as error:  # of a file of the checkout itself
         streams.say(error)
         return NOT_BUILT
-    except KeyboardInterrupt:
-        streams.end_by(2)
     except Stopped as stopped:
         streams.end_by(stopped.number)
 

@@ -101,7 +101,9 @@ def broken_off(checkout, number, sign):
         if sign in line:
             break
     time.sleep(1)
-    child.send_signal(number)
+    for _ in range(3):  # as somebody does who is in a hurry
+        child.send_signal(number)
+        time.sleep(0.01)
     status, what = child.wait(timeout=60), f"broken off by signal {number}"
     if status != -number or child.stdout.read() or b"Traceback" in child.stderr.read():
         programs.stop(f"{what}: status {status}")

@@ -1,6 +1,8 @@
 #!/usr/bin/env python3
 """The words that ./funkenrille knows, and the status with which it ends: one meaning in every command, and never a traceback."""
 
+import array
+import fcntl
 import os
 import re
 import shutil
@@ -8,6 +10,7 @@ import signal
 import subprocess
 import sys
 import tempfile
+import termios
 import time
 
 import programs
@@ -117,10 +120,12 @@ def stopped():
     """Ctrl-C while a text is awaited ends the command by that signal, and quietly."""
     global count
     for name in PLAYERS:
-        child = subprocess.Popen([COMMAND, name], stdin=subprocess.PIPE, stdout=subprocess.PIPE, stderr=subprocess.PIPE)
-        while "main.py" not in open(f"/proc/{child.pid}/cmdline", encoding="utf-8").read():
+        child = subprocess.Popen([COMMAND, name], stdin=subprocess.PIPE, stdout=subprocess.PIPE, stderr=subprocess.PIPE, bufsize=0)
+        child.stdin.write(b"step")
+        waiting = array.array("i", [4])
+        while waiting[0]:  # until it has taken that, and awaits the rest
             time.sleep(0.01)
-        time.sleep(0.5)
+            fcntl.ioctl(child.stdin, termios.FIONREAD, waiting)
         child.send_signal(signal.SIGINT)
         count += 1
         same(f"{name}, Ctrl-C", (child.wait(timeout=20), child.communicate()), (-signal.SIGINT, (b"", b"")))

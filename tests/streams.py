@@ -140,6 +140,18 @@ def broken_pipe():
         os.close(writer)
 
 
+def scripts():
+    """The scripts that people call besides: the comparison stands for all, since they end by one function."""
+    words = [sys.executable, "-B", str(programs.TOP / "tests" / "compare.py"), "--lines", "100"]
+    with open("/dev/full", "wb") as full:
+        ended("a full disk", words, NO_STREAM, "No space left on device", stdout=full)
+    ended("closed output", closed(words, ">&-"), NO_STREAM, "standard output is closed")
+    reader, writer = os.pipe()
+    os.close(reader)
+    ended("a broken pipe", words, -signal.SIGPIPE, "", stdout=writer)
+    os.close(writer)
+
+
 def interrupted():
     """A text that comes in pieces, while the reader is stopped and told to go on, and a reader that takes its time: nothing is lost."""
     for (name, program), words in zip(proved(), PLAYERS):
@@ -173,7 +185,7 @@ def longest():
 
 
 def main():
-    for test in (unreadable, files, unwritable, not_waiting, broken_pipe, interrupted, longest):
+    for test in (unreadable, files, unwritable, not_waiting, broken_pipe, scripts, interrupted, longest):
         test()
     print(f"streams: {count} things seen of the command and of the programs; nothing was lost in silence")
     return 0
