@@ -134,8 +134,12 @@ def examples(installed):
     for source, language in EXAMPLES:
         for static in (False, True):
             example(installed.started(installed.compiled("play", source, language, static)), source + (" (static)" if static else ""))
+    python = programs.TOP / "examples" / "python" / "play.py"
+    longest = re.search(r"FUNKENRILLE_REPORT_MAX (\d+)u", (installed.lib.parent / "include" / "funkenrille.h").read_text())[1]
+    if f"REPORT_MAX = {longest} " not in python.read_text():
+        programs.stop("examples/python/play.py and the header have different bounds")
     if NATIVE:
-        example([sys.executable, str(programs.TOP / "examples/python/play.py"), str(installed.lib / "libfunkenrille.so.1")], "examples/python/play.py")
+        example([sys.executable, str(python), str(installed.lib / "libfunkenrille.so.1")], "examples/python/play.py")
     else:
         print("c_library: examples/python/play.py is not run, since Python here is not x86-64")
 

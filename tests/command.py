@@ -103,10 +103,10 @@ def explaining():
 
 def not_built():
     """No kit, and a kit that is none: the command says so and builds nothing."""
-    python = os.path.dirname(shutil.which("python3", path="/usr/bin:" + os.environ["PATH"]))
     with tempfile.TemporaryDirectory() as folder:
-        for tool in ("python3", "sh", "readlink", "dirname"):
-            os.symlink(shutil.which(tool, path=f"{python}:/usr/bin:/bin"), os.path.join(folder, tool))
+        os.symlink(sys.executable, os.path.join(folder, "python3"))
+        for tool in ("readlink", "dirname"):
+            os.symlink(shutil.which(tool), os.path.join(folder, tool))
         for name in ("run", "ledger"):
             said = call(name, env={"PATH": folder}, status=NOT_BUILT)
             same("no kit", "no command 'rt'" in said, True)
