@@ -51,12 +51,14 @@ def alone(top):
         except BlockingIOError:
             say("another build is at work in this checkout; waiting for it")
             fcntl.flock(file, fcntl.LOCK_EX)
+        except OSError:  # a file system without locks
+            pass
         yield
 
 
 def crates_of(top, name):
     """The crates of the repository that the program stands on, itself among them."""
-    lines = re.sub(r"#.*", "", (top / "crates.txt").read_text()).splitlines()
+    lines = re.sub(r"#.*", "", (top / "crates.txt").read_text(encoding="utf-8")).splitlines()
     needs = {crate.strip(): rest.split() for crate, colon, rest in (line.partition(":") for line in lines) if colon}
     found, todo = set(), [name]
     while todo:
@@ -69,12 +71,12 @@ def crates_of(top, name):
 
 def build(top, name):
     target = top / "target"
+    before = {target, *target.rglob("*")} if target.exists() else set()
     try:
         target.mkdir(exist_ok=True)
         tempfile.TemporaryFile(dir=target).close()
     except OSError as error:
         raise Failure(NOT_BUILT, f"'{name}' has to be built first, and {target} cannot be written: {why(error)}; use a clone in a folder of your own") from None
-    before = set(target.rglob("*"))
     with stoppable():
         try:
             with tempfile.TemporaryDirectory(prefix="funkenrille-") as room:
@@ -83,7 +85,7 @@ def build(top, name):
         except BaseException:
             clear(target, before)
             raise
-    if said:
+    if said is not None:
         say(f"'{name}' could not be built; the last lines of 'rt check {name}':")
         tell("".join(said[-SHOWN:]))
         raise Failure(NOT_BUILT, f"'{name}' could not be built")
@@ -92,14 +94,12 @@ def build(top, name):
 
 def clear(target, before):
     """Takes away what a build that was broken off had made."""
-    for path in sorted(set(target.rglob("*")) - before, reverse=True):
+    for path in sorted({target, *target.rglob("*")} - before, reverse=True):  # what is in a folder comes before the folder
         path.rmdir() if path.is_dir() and not path.is_symlink() else path.unlink()
-    if not before and not any(target.iterdir()):
-        target.rmdir()
 
 
 def proved(top, name, room):
-    """Has rt build the program, and tells how far it is. Nothing is answered where it was built, and otherwise what rt said."""
+    """Has rt build the program, and tells how far it is. The answer is None where it was built, and otherwise what rt said."""
     said = []
     with Progress(name, len(crates_of(top, name))) as progress:
         child = subprocess.Popen(["rt", "check", name], cwd=top, stdin=subprocess.DEVNULL, stdout=subprocess.PIPE, stderr=subprocess.STDOUT, text=True,
@@ -109,7 +109,7 @@ def proved(top, name, room):
                 said.append(line)
                 if found := re.match(r"rt: (\w+) proved", line):
                     progress.step(found[1])
-            return [] if child.wait() == 0 else said
+            return None if child.wait() == 0 else said
         finally:
             end(child)
 
