@@ -4,7 +4,8 @@
 - every `./funkenrille` command that a page quotes whole ends with 0;
 - README.md's transcripts, and its way to the C library;
 - docs/RUN-TEXT.md: the first text and its report; the answer to each line of its table;
-- docs/SCOPE.md: every refusal number, the order of checks as docs/REFUSALS.md has it, the whole case.
+- docs/SCOPE.md: every refusal number, the order of checks as docs/REFUSALS.md has it, the whole case;
+- CHANGELOG.md begins with the version that the file VERSION has.
 """
 
 import platform
@@ -109,6 +110,7 @@ def main():
     readme()
     lines = run_text()
     scope()
+    same("CHANGELOG.md", re.search(r"^## (.*)$", page("CHANGELOG.md"), re.M)[1], page("VERSION").strip())
     print(f"pages: {commands} commands work as quoted, {lines} lines are answered as the page says, the rules are the same on every page")
     return 0
 
