@@ -13,7 +13,7 @@ from contextlib import contextmanager
 from status import NOT_BUILT, Failure
 from streams import MESSAGES, say, tell, why
 
-EXPECTED = {"run": 160, "ledger_run": 130}  # seconds of a first build on two cores
+EXPECTED = {"run": 160, "ledger_run": 130}  # seconds of a first build on two idle cores
 SHOWN = 20  # lines of what rt said, where it could not build
 
 
@@ -165,7 +165,7 @@ class Progress:
         self.ticking = threading.Thread(target=self.tick, daemon=True)
 
     def __enter__(self):
-        say(f"building '{self.name}', once: {self.count} crates are proved first, about {EXPECTED[self.name]} s on two cores; Ctrl-C breaks off and leaves nothing")
+        say(f"building '{self.name}', once: {self.count} crates are proved first, about {EXPECTED[self.name]} s on two idle cores; Ctrl-C breaks off and leaves nothing")
         if self.live:
             self.ticking.start()
         return self
@@ -173,10 +173,10 @@ class Progress:
     def step(self, crate):
         self.done += 1
         if not self.live:
-            say(f"{self.words()} ({crate})")
+            say(f"{self.words()}: {crate}")
 
     def words(self):
-        return f"'{self.name}': crate {self.done} of {self.count} proved, {time.monotonic() - self.began:.0f} s of about {EXPECTED[self.name]} s"
+        return f"'{self.name}': crate {self.done} of {self.count} proved, {time.monotonic() - self.began:.0f} s (about {EXPECTED[self.name]} s in all)"
 
     def tick(self):
         while not self.over.wait(1):

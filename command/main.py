@@ -17,7 +17,7 @@ from build import Stopped
 from status import DONE, NOT_BUILT, TOO_LONG, WRONG_USE, Failure
 
 TOP = Path(__file__).resolve().parent.parent
-sys.path.append(str(TOP / "draw"))
+sys.path.insert(1, str(TOP / "draw"))
 
 USAGE = {
     "run": "run [FILE]      play a run text and print its report",

@@ -116,7 +116,7 @@ def together(checkout):
     """Two at once: one builds and tells how far it is, the other waits; both print the report."""
     children = [checkout.start(), checkout.start()]
     waited, built = sorted((finished(child, "two at once") for child in children), key=len)
-    steps = re.findall(r"crate (\d+) of (\d+) proved, \d+ s of about \d+ s", built)
+    steps = re.findall(r"crate (\d+) of (\d+) proved, \d+ s \(about \d+ s in all\)", built)
     if "another build is at work" not in waited or not steps or [int(k) for k, _ in steps] != list(range(1, int(steps[0][1]) + 1)):
         programs.stop(f"two at once: {waited!r}, {built!r}")
     checkout.check_nothing_left("two at once")
