@@ -54,7 +54,7 @@ def help_and_version():
             programs.stop(f"help does not name {name}")
     for name in NAMES[:-1]:
         for option in ("--help", "-h"):
-            same(f"{name} {option}", call(name, option), call("help", name))
+            same(f"{name} {option}", call(name, option).split()[:3], ["usage:", "./funkenrille", name])
     same("--version", call("--version"), VERSION)
 
 
