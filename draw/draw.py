@@ -1,4 +1,4 @@
-"""Draws a run text as a space-time diagram: `draw.py [FILE] > picture.svg`.
+"""Draws a run text as a space-time diagram; the command is `./funkenrille draw [FILE] > picture.svg`.
 
 A lane for each bench, time running down, one row for each line of the text that
 was done, so that text and picture can be read side by side. Refused and
@@ -6,7 +6,6 @@ malformed lines stand as notes in the margin, next to where they were met.
 """
 
 import re
-import sys
 from collections import Counter, defaultdict
 from pathlib import Path
 
@@ -342,26 +341,3 @@ def picture(text, file_name):
     count = f"{len(run.lines)} lines, {refused or 'none'} refused"
     subtitle = f"{name}: {count}. Time runs down, one row for each line that was done."
     return Figure(run, meanings).draw(title, subtitle, "No line of this text was done.")
-
-
-def main(words):
-    """Exit status 2 if there is no picture, or only one that says the text is too long."""
-    if len(words) > 1:
-        print("usage: draw.py [FILE] > picture.svg", file=sys.stderr)
-        return 2
-    try:
-        source = open(words[0], "rb") if words else sys.stdin.buffer
-        with source:
-            text = source.read(rounds.TEXT_MAX + 1)
-    except OSError as error:
-        print(f"draw: {error}", file=sys.stderr)
-        return 2
-    sys.stdout.buffer.write(picture(text, Path(words[0]).name if words else "run text").encode())
-    if len(text) > rounds.TEXT_MAX:
-        print(f"draw: {TOO_LONG}", file=sys.stderr)
-        return 2
-    return 0
-
-
-if __name__ == "__main__":
-    sys.exit(main(sys.argv[1:]))

@@ -12,7 +12,6 @@ import collections
 import itertools
 import pathlib
 import subprocess
-import sys
 import tempfile
 
 import texts  # first: it opens the way to tests/
@@ -63,4 +62,4 @@ def main():
 
 
 if __name__ == "__main__":
-    sys.exit(main())
+    programs.finish(main)

@@ -20,7 +20,6 @@ import platform
 import re
 import shutil
 import subprocess
-import sys
 import tempfile
 
 import texts  # first: it opens the way to tests/
@@ -177,4 +176,4 @@ def main():
 
 
 if __name__ == "__main__":
-    sys.exit(main())
+    programs.finish(main)

@@ -11,7 +11,6 @@ The program's sources end in `.in`, because `rt` wants every Rattle file of a re
 import pathlib
 import shutil
 import subprocess
-import sys
 import tempfile
 
 import measure
@@ -60,4 +59,4 @@ def main():
 
 
 if __name__ == "__main__":
-    sys.exit(main())
+    programs.finish(main)

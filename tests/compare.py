@@ -4,7 +4,7 @@
     compare.py [--lines N] [--first SEED] [--kind run|ledger]
 
 Both are given the same texts, made by generate.py from rising seeds, until N lines (1,000,000 if nothing is said) have been compared.
-It fails at the first difference, which it shrinks and prints, and if some refusal number that a text can meet was not met.
+It fails at the first difference, which it shrinks and prints, and if so many lines (ENOUGH of a kind) left out a refusal number that its texts can meet.
 """
 
 import argparse
@@ -13,8 +13,8 @@ import itertools
 import multiprocessing
 import os
 import re
+import signal
 import subprocess
-import sys
 import tempfile
 import time
 
@@ -27,15 +27,16 @@ MUST_MEET = {
     "ledger": {0, 1, 13, 14, 15, 16, 17, 18, 19, 20, 22, 23, 24, 25},
 }
 PROVED = {"run": "run", "ledger": "ledger_run"}
+ENOUGH = {"run": 300_000, "ledger": 200_000}
 LINES = (3000, 3000, 3000, 3000, 70000)  # of one text at most, in turn: with 70,000 every family is free to do what it likes
 
 
 class Pair:
     """The two programs of a kind."""
 
-    def __init__(self, kind, second):
+    def __init__(self, kind, ours, second):
         self.kind = kind
-        self.ours = programs.proved(PROVED[kind])
+        self.ours = ours
         self.other = [second, kind]
 
     def outputs(self, data):
@@ -71,9 +72,9 @@ def shrunk(pair, data):
 
 def compared(job):
     """Compares one text: (kind, seed, lines, numbers met, the text if the outputs differ)."""
-    kind, seed, second = job
+    pair, seed = job
+    kind = pair.kind
     data = generate.text(kind, seed, LINES[seed % len(LINES)])
-    pair = Pair(kind, second)
     ours, other = pair.outputs(data)
     met = set(map(int, re.findall(rb"^line=\d+ answer=(\d+)", ours[1], re.M)))
     if ours[1] == b"refused=23\n":
@@ -82,21 +83,34 @@ def compared(job):
     return kind, seed, lines, met, data if ours != other or ours[0] else None
 
 
-def jobs(kinds, first, second):
+def jobs(pairs, first):
     """Texts without end, of the kinds in turn."""
     for at in itertools.count():
-        yield kinds[at % len(kinds)], first + at, second
+        yield pairs[at % len(pairs)], first + at
 
 
-def show(kind, seed, data, second):
+def show(pair, seed, data):
     """Prints a difference, shrunk."""
-    pair = Pair(kind, second)
-    print(f"compare: {kind}, seed {seed}: the programs differ; shrinking", flush=True)
+    print(f"compare: {pair.kind}, seed {seed}: the programs differ; shrinking", flush=True)
     small = shrunk(pair, data)
     ours, other = pair.outputs(small)
     print(f"text ({len(small)} bytes): {small[:4000]!r}")
     print(f"proved program: status {ours[0]}, {ours[1][:4000]!r}")
     print(f"second program: status {other[0]}, {other[1][:4000]!r}")
+
+
+def at_ease():
+    """Leaves Ctrl-C to the process that started the workers."""
+    signal.signal(signal.SIGINT, signal.SIG_IGN)
+
+
+def all_met(lines, met):
+    """Whether every number was met that so many lines must meet; it says what was not."""
+    missing = {kind: sorted(MUST_MEET[kind] - met[kind]) for kind in lines}
+    for kind in lines:
+        if missing[kind]:
+            print(f"compare: no {kind} text met {missing[kind]}" + ("" if lines[kind] >= ENOUGH[kind] else f", which takes {ENOUGH[kind]} lines to be sure of"))
+    return not any(missing[kind] and lines[kind] >= ENOUGH[kind] for kind in lines)
 
 
 def main():
@@ -106,14 +120,16 @@ def main():
     parser.add_argument("--kind", choices=sorted(PROVED), help="only texts of this kind")
     options = parser.parse_args()
     kinds = [options.kind] if options.kind else ["run", "run", "run", "ledger"]
+    started = {kind: programs.proved(PROVED[kind]) for kind in kinds}  # here and not in a worker, which would be started again for ever
     began = shown = time.time()
     lines, texts, met = collections.Counter(), collections.Counter(), collections.defaultdict(set)
-    with tempfile.TemporaryDirectory() as folder, multiprocessing.Pool(os.cpu_count()) as pool:
+    with tempfile.TemporaryDirectory() as folder, multiprocessing.Pool(os.cpu_count(), at_ease) as pool:
         second = programs.second(folder)
-        for kind, seed, count, numbers, difference in pool.imap_unordered(compared, jobs(kinds, options.first, second), chunksize=4):
+        pairs = [Pair(kind, started[kind], second) for kind in kinds]
+        for kind, seed, count, numbers, difference in pool.imap_unordered(compared, jobs(pairs, options.first), chunksize=4):
             if difference is not None:
                 pool.terminate()
-                show(kind, seed, difference, second)
+                show(pairs[kinds.index(kind)], seed, difference)
                 return 1
             lines[kind] += count
             texts[kind] += 1
@@ -124,14 +140,12 @@ def main():
             if sum(lines.values()) >= options.lines:
                 pool.terminate()
                 break
-    for kind in lines:
-        if MUST_MEET[kind] - met[kind]:
-            print(f"compare: no {kind} text met {sorted(MUST_MEET[kind] - met[kind])}")
-            return 1
+    if not all_met(lines, met):
+        return 1
     said = ", ".join(f"{lines[kind]} lines of {texts[kind]} {kind} texts" for kind in lines)
     print(f"compare: {said}; no difference; {time.time() - began:.0f} s")
     return 0
 
 
 if __name__ == "__main__":
-    sys.exit(main())
+    programs.finish(main)

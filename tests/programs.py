@@ -1,18 +1,38 @@
 """How tests run the project's programs: the proved ones as the kit runs them, and the second program, built from second/second.c."""
 
+import errno
 import os
 import pathlib
 import platform
 import shutil
+import signal
 import subprocess
 import sys
 
 TOP = pathlib.Path(__file__).resolve().parent.parent
+NO_STREAM = 4  # the status where something could not be read or written
 
 
 def stop(message):
     """Ends a test that cannot be made."""
     sys.exit(f"{os.path.basename(sys.argv[0])}: {message}")
+
+
+def finish(main):
+    """Runs a script that people call, and ends it as docs/COMMAND.md says of every command: nothing is lost in silence, and there is no traceback."""
+    try:
+        if sys.stdout is None:
+            raise OSError(errno.EBADF, "standard output is closed")
+        status = main()
+        sys.stdout.flush()
+        sys.exit(status)
+    except (BrokenPipeError, KeyboardInterrupt) as error:
+        number = signal.SIGINT if isinstance(error, KeyboardInterrupt) else signal.SIGPIPE
+        signal.signal(number, signal.SIG_DFL)
+        os.kill(os.getpid(), number)
+    except OSError as error:
+        os.write(2, f"{os.path.basename(sys.argv[0])}: {error.strerror or error}\n".encode())
+        os._exit(NO_STREAM)  # at once, since an ordinary end would try to write again what could not be written
 
 
 def install(command, package):

@@ -1,26 +1,62 @@
 // Plays the ledger script on standard input and prints its report to standard output: docs/LEDGER-SCRIPT.md. Of a text that is too long it
-// prints the refusal alone. Where the output is closed it ends, since there is nobody left to tell.
+// prints the refusal alone. Where the input cannot be read to its end, or the report not be written whole, it says so on standard error; a Rattle
+// program has no exit status, so the command ./funkenrille gives one.
 use ledger_report::ROOM;
 use ledger_report::Reported;
 use ledger_report::report;
+use libc::STDERR_FILENO;
 use libc::STDIN_FILENO;
 use libc::STDOUT_FILENO;
 
 // The input has room for one byte more than a text may have, to see that it is too long.
 fn main() {
     let mut input = [0u8; 65537];
-    let mut room = [0u8; ROOM];
     let n = io::read_full(STDIN_FILENO, &mut input);
-    match report(&input[..n], &mut room) {
-        Reported::Length(length) => {
-            io::write_all(STDOUT_FILENO, &room[..length]);
-        }
+    if n == 65537 || ended() {
+        play(&input[..n]);
+    }
+}
+
+fn play(text: &[u8]) {
+    let mut room = [0u8; ROOM];
+    match report(text, &mut room) {
+        Reported::Length(length) => print(&room[..length]),
         Reported::Refused(number) => print_refusal(number),
     }
 }
 
+// Whether the input is at its end; it says so where it is not. io::read_full answers a short count at the end and where a read fails, and only
+// at the end does one more read give 0.
+fn ended() -> bool {
+    let mut more = [0u8; 1];
+    if libc::read(STDIN_FILENO, &mut more) == 0 {
+        return true;
+    }
+    io::write_all(
+        STDERR_FILENO,
+        b"ledger_run: standard input cannot be read\n",
+    );
+    false
+}
+
+fn print(report: &[u8]) {
+    written(io::write_all(STDOUT_FILENO, report));
+}
+
 fn print_refusal(number: u8) {
-    io::write_all(STDOUT_FILENO, b"refused=");
-    io::print_decimal(STDOUT_FILENO, number as u64);
-    io::write_all(STDOUT_FILENO, b"\n");
+    let named = io::write_all(STDOUT_FILENO, b"refused=");
+    written(
+        named
+            && io::print_decimal(STDOUT_FILENO, number as u64)
+            && io::write_all(STDOUT_FILENO, b"\n"),
+    );
+}
+
+fn written(whole: bool) {
+    if !whole {
+        io::write_all(
+            STDERR_FILENO,
+            b"ledger_run: standard output cannot be written\n",
+        );
+    }
 }

@@ -1,5 +1,7 @@
 // The run program: plays the text on standard input and prints its report to standard output. Of a text that is too long it prints the
-// refusal alone. Where the output is closed it ends, since there is nobody left to tell.
+// refusal alone. Where the input cannot be read to its end, or the report not be written whole, it says so on standard error; a Rattle
+// program has no exit status, so the command ./funkenrille gives one.
+use libc::STDERR_FILENO;
 use libc::STDIN_FILENO;
 use libc::STDOUT_FILENO;
 use run_report::Reported;
@@ -14,16 +16,44 @@ fn main() {
 
 fn run(input: &mut [u8], room: &mut [u8]) {
     let n = io::read_full(STDIN_FILENO, input);
-    match report(&input[..n], room) {
-        Reported::Length(length) => {
-            io::write_all(STDOUT_FILENO, &room[..length]);
-        }
+    if n == input.len() || ended() {
+        play(&input[..n], room);
+    }
+}
+
+fn play(text: &[u8], room: &mut [u8]) {
+    match report(text, room) {
+        Reported::Length(length) => print(&room[..length]),
         Reported::Refused(number) => print_refusal(number),
     }
 }
 
+// Whether the input is at its end; it says so where it is not. io::read_full answers a short count at the end and where a read fails, and only
+// at the end does one more read give 0.
+fn ended() -> bool {
+    let mut more = [0u8; 1];
+    if libc::read(STDIN_FILENO, &mut more) == 0 {
+        return true;
+    }
+    io::write_all(STDERR_FILENO, b"run: standard input cannot be read\n");
+    false
+}
+
+fn print(report: &[u8]) {
+    written(io::write_all(STDOUT_FILENO, report));
+}
+
 fn print_refusal(number: u8) {
-    io::write_all(STDOUT_FILENO, b"refused=");
-    io::print_decimal(STDOUT_FILENO, number as u64);
-    io::write_all(STDOUT_FILENO, b"\n");
+    let named = io::write_all(STDOUT_FILENO, b"refused=");
+    written(
+        named
+            && io::print_decimal(STDOUT_FILENO, number as u64)
+            && io::write_all(STDOUT_FILENO, b"\n"),
+    );
+}
+
+fn written(whole: bool) {
+    if !whole {
+        io::write_all(STDERR_FILENO, b"run: standard output cannot be written\n");
+    }
 }
