@@ -3,7 +3,7 @@
 
 VERSION := $(shell cat VERSION)
 MAJOR := $(firstword $(subst ., ,$(VERSION)))
-CRATE := report# the crate that exports the C function
+CRATE := run_report# the crate that exports the C function
 PREFIX := /usr/local
 
 ifneq ($(shell uname -m),x86_64)

@@ -10,11 +10,11 @@ use kinds::BenchNo;
 use room::bytes::put_bytes;
 use room::decimal::put_field;
 use room::decimal::put_number;
-use rounds::Benches;
-use rounds::Decision;
-use rounds::decision_of;
-use rounds::sent_of;
-use rounds::state_of;
+use tables::Benches;
+use reads::Decision;
+use reads::decision_of;
+use reads::sent_of;
+use reads::state_of;
 
 // Stores the lines of the benches at the room's front, and answers the place behind them. None is longer than 67 bytes.
 pub(crate) fn store_benches(room: &mut [u8], benches: &Benches) -> usize
