@@ -1,3 +1,4 @@
+pub mod Answers
 pub mod Outcomes
 pub mod Numbers
 pub mod Only

@@ -88,6 +88,11 @@ unfolding only
 only-none P p l f none = refl
 only-none P p l f (more x k h a) = rw (f x h) (only-none P p k f a)
 
+pub only-all : {A : Type 0} (P : A → Type 0) (p : A → Bool) (l : List A) → ((x : A) → P x → p x ≡ true) → All P l → only p l ≡ l
+unfolding only
+only-all P p l f none = refl
+only-all P p l f (more x k h a) = rw (f x h) (ap (λ m. x ∷ m) (only-all P p k f a))
+
 -- nothing is known
 pub all-any : {A : Type 0} (l : List A) → All (λ x. x ≡ x) l
 all-any [] = none

@@ -8,25 +8,12 @@ use lib.ListN.{length}
 use lib.Dec.{eqb}
 use borrow.Author.Tests.{leb-true, ltb-true, not-true}
 use Rattle.common.specs.Checks.{Check, needs}
-use Rattle.common.proofs.Tests.{both, clash}
+use Rattle.common.proofs.Tests.{both}
 use Rattle.common.proofs.Checks.{Holds, Fails, here, later, first-check, other-checks, judge-ind, judge-fails, judge-holds}
 use Rattle.common.proofs.Benches.{In}
 use Rattle.common.proofs.Benches.{bench-in}
-use Rattle.book.specs.Book.{Row, unknown, joined, ended, hasJoined, isOpen, firstSlot, openSlot, mayGo, tagsOf, Book, withRow, swept, cut, advanced, Step, join, sweep, close, end, handOut, Answer, answer, checks, after, step}
-
--- ---- what the checks say
-
-pub unknown-is : (r : Row) → not (hasJoined r) ≡ true → r ≡ unknown
-unfolding hasJoined
-unknown-is unknown e = refl
-unknown-is (joined f o) e = clash (cc)
-unknown-is (ended f o x) e = clash (cc)
-
-pub open-is : (r : Row) → isOpen r ≡ true → (f : ℕ) × (o : ℕ) × (r ≡ joined f o)
-unfolding isOpen
-open-is unknown e = clash (cc)
-open-is (joined f o) e = (f, o, refl)
-open-is (ended f o x) e = clash (cc)
+use Rattle.book.proofs.Answers.{unknown-is, open-is}
+use Rattle.book.specs.Book.{unknown, joined, ended, firstSlot, openSlot, mayGo, tagsOf, Book, withRow, swept, cut, advanced, Step, join, sweep, close, end, handOut, Answer, answer, checks, after, step}
 
 -- ---- no refusal has the number 0, and whatever is done has it
 
@@ -64,6 +51,11 @@ after-done n b (handOut room) = refl
 pub step-ind : (n : ℕ) (b : Book) (s : Step) (P : Answer → Type 0) → ((k : ℕ) → Fails (checks n b s) k → P (answer k [] b)) → (Holds (checks n b s) → P (after n b s)) → P (step n b s)
 unfolding step
 step-ind n b s P r d = judge-ind P (λ k. answer k [] b) (checks n b s) (after n b s) r d
+
+-- a refused step leaves the book itself, and no tags
+pub refused-same : (n : ℕ) (b : Book) (s : Step) → (step n b s .number ≡ 0 → ⊥) → (step n b s .book ≡ b) × (step n b s .tags ≡ [])
+unfolding answer
+refused-same n b s = step-ind n b s (λ a. (a .number ≡ 0 → ⊥) → (a .book ≡ b) × (a .tags ≡ [])) (λ k f e. (refl, refl)) (λ h e. absurd (e (after-done n b s)))
 
 -- exactly when
 pub step-fails : (n : ℕ) (b : Book) (s : Step) (k : ℕ) → Fails (checks n b s) k → step n b s ≡ answer k [] b

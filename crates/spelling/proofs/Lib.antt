@@ -17,3 +17,6 @@ pub mod TextTrip
 pub mod Turns
 pub mod Theorems
 pub mod Examples
+pub mod Refusals
+pub mod LedgerLines
+pub mod LedgerExamples
