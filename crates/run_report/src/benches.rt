@@ -7,14 +7,14 @@ ghost use Rattle.reads.specs.Decisions.{decisionIs};
 ghost use Rattle.run_report.specs.Report.{stateText, valueText};
 ghost use Rattle.run_report.specs.Parts.{rowLine, rowLines};
 use kinds::BenchNo;
-use room::bytes::put_bytes;
-use room::decimal::put_field;
-use room::decimal::put_number;
-use tables::Benches;
 use reads::Decision;
 use reads::decision_of;
 use reads::sent_of;
 use reads::state_of;
+use room::bytes::put_bytes;
+use room::decimal::put_field;
+use room::decimal::put_number;
+use tables::Benches;
 
 // Stores the lines of the benches at the room's front, and answers the place behind them. None is longer than 67 bytes.
 pub(crate) fn store_benches(room: &mut [u8], benches: &Benches) -> usize

@@ -9,12 +9,12 @@ ghost use Rattle.tables.specs.Meets.{Links};
 ghost use Rattle.run_report.specs.Report.{answerTo};
 ghost use Rattle.run_report.specs.Parts.{Played};
 use kinds::AnswerNo;
-use tables::Benches;
-use tables::Logs;
 use rounds::step;
 use run_text::read_line;
 use spelling::Read;
 use spelling::Said;
+use tables::Benches;
+use tables::Logs;
 
 // Plays the text from the empty tables. Answers how many lines it has, and keeps the answer of each, one byte a line.
 pub(crate) fn play(text: &[u8], benches: &mut Benches, logs: &mut Logs, answers: &mut [u8]) -> usize
