@@ -10,6 +10,7 @@ import sys
 from collections import Counter, defaultdict
 from pathlib import Path
 
+import reading
 import rounds
 import svg
 
@@ -335,7 +336,7 @@ def picture(text, file_name):
     """The picture of a text; one that is too long gets a picture that says so."""
     title, meanings = title_of(file_name), read_meanings()
     name = svg.legible(file_name.encode(errors="replace"), 60)
-    if len(text) > rounds.TEXT_MAX:
+    if len(text) > reading.TEXT_MAX:
         return Figure(rounds.Run(), meanings).draw(title, name, TOO_LONG)
     run = rounds.play(text)
     refused = sum(line.answer != 0 for line in run.lines)
@@ -352,12 +353,12 @@ def main(words):
     try:
         source = open(words[0], "rb") if words else sys.stdin.buffer
         with source:
-            text = source.read(rounds.TEXT_MAX + 1)
+            text = source.read(reading.TEXT_MAX + 1)
     except OSError as error:
         print(f"draw: {error}", file=sys.stderr)
         return 2
     sys.stdout.buffer.write(picture(text, Path(words[0]).name if words else "run text").encode())
-    if len(text) > rounds.TEXT_MAX:
+    if len(text) > reading.TEXT_MAX:
         print(f"draw: {TOO_LONG}", file=sys.stderr)
         return 2
     return 0

@@ -14,6 +14,7 @@ import xml.etree.ElementTree as ElementTree
 from pathlib import Path
 
 import draw
+import reading
 import rounds
 import svg
 
@@ -154,12 +155,12 @@ class PictureTest(unittest.TestCase):
         self.assertTrue(any(word.startswith("refused 20") for word in words))
 
     def test_many_refused_lines_are_counted(self):
-        words = self.words(self.picture(b"\n" * rounds.TEXT_MAX))
-        self.assertIn(f"and {rounds.TEXT_MAX - draw.NOTES_MOST} more: "
-                      f"{rounds.TEXT_MAX - draw.NOTES_MOST} times 20", words)
+        words = self.words(self.picture(b"\n" * reading.TEXT_MAX))
+        self.assertIn(f"and {reading.TEXT_MAX - draw.NOTES_MOST} more: "
+                      f"{reading.TEXT_MAX - draw.NOTES_MOST} times 20", words)
 
     def test_a_text_too_long(self):
-        self.assertIn(draw.TOO_LONG, self.words(self.picture(b"\n" * (rounds.TEXT_MAX + 1))))
+        self.assertIn(draw.TOO_LONG, self.words(self.picture(b"\n" * (reading.TEXT_MAX + 1))))
 
     def test_worlds(self):
         self.assertEqual(svg.world_text({1, 2, 3}), "{1,2,3}")
