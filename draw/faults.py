@@ -4,7 +4,7 @@ import re
 
 import mend
 import reading
-from shown import many
+from shown import letters, many
 
 BYTE_ORDER_MARK = b"\xef\xbb\xbf"
 SPACES = {b"\t": "a tab", b"\xc2\xa0": "a no-break space", b"\xa0": "a no-break space", b"\v": "a vertical tab", b"\f": "a form feed"}
@@ -54,7 +54,8 @@ def space(line, fault, rest):
 
 
 def word_at(rest, pattern=rb"[^\s=,]*"):
-    return re.match(pattern, rest)[0][:24].decode("utf-8", "backslashreplace")
+    """What stands there, of at most 24 bytes, made safe to show."""
+    return "".join(piece for _, piece in letters(re.match(pattern, rest, re.DOTALL)[0][:24]))
 
 
 def kind(line, fault, rest):

@@ -45,7 +45,9 @@ class Line:
     taken: Message | None = None
     lost: list = field(default_factory=list)
     decided: int | None = None
-    why: object = None  # of a refused line, put there by why.explained
+    view: "View | None" = None  # what a turn looked at
+    told: tuple = ()  # the line in words, put there by why.explained
+    why: object = None  # and of a refused one what would help
 
 
 @dataclass(frozen=True)
@@ -223,6 +225,7 @@ class Run:
         if bench.state != "running":
             return 3
         own, view = bench.own(), self.view(step.bench)
+        line.view = view
         if view.awaited:
             return 11
         agreed = all(message.value == own.value and message.world <= own.world for message in view.heard.values())

@@ -10,6 +10,7 @@ import faults
 import mend
 import reading
 import rounds
+import what
 from shown import benches_text, message_text, sentence, world_text
 
 SINCE = {"running": "started", "decided": "decided", "abstained": "abstained", "left": "left", "failed": "failed"}
@@ -32,12 +33,15 @@ class Why:
     benches: tuple = ()
 
 
-def explained(text):
-    """The run of a text, each refused line with its Why."""
+def explained(text, watch=None):
+    """The run of a text, each line told in words and each refused one with its Why; `watch` is called with the run after each line."""
     run = rounds.Run()
     for line in run.play(text):
         if line.answer:
             line.why = explain(run, line)
+        line.told = line.why.words if line.answer else what.did(run, line)
+        if watch:
+            watch(run, line)
     return run
 
 
