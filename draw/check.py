@@ -2,9 +2,8 @@
 
 import itertools
 
-import command
+import calling
 import mend
-import reading
 import shown
 import why
 
@@ -12,9 +11,8 @@ MOST = 110  # letters of a shown line
 
 
 def words():
-    parser = command.Words("check", "Says which lines of a run text are malformed, where and why, and why steps were refused.")
+    parser = calling.Words("check", "Says which lines of a run text are malformed, where and why, and why steps were refused.")
     parser.add_argument("--fix", action="store_true", help="write the text with every line mended that is beyond doubt")
-    parser.add_argument("-o", metavar="OUT", dest="out", help="write there instead of standard output")
     return parser
 
 
@@ -59,26 +57,26 @@ def summary(run, text):
     return counts + (f"; --fix can mend {mendable} of them" if mendable else "")
 
 
-def write_fixed(text, out):
+def fixed(options, text):
     """Writes the mended text; what was done is said on standard error. The status is that of the text written."""
-    fixed = mend.fix(text)
-    command.write_text(out, fixed.text)
-    command.say("check", f"{shown.many(len(fixed.changed), 'line')} mended, {len(fixed.left)} malformed left"
-                + (f": line{'s' if len(fixed.left) > 1 else ''} {shown.runs_text(fixed.left)}" if fixed.left else ""))
-    return command.MALFORMED if fixed.left else 0
+    done = mend.fix(text)
+    left = f": line{'s' if len(done.left) > 1 else ''} {shown.runs_text(done.left)}" if done.left else ""
+    status = calling.finish(options, text, done.text, calling.MALFORMED if done.left else calling.DONE)
+    calling.streams.say(f"{shown.many(len(done.changed), 'line')} mended, {len(done.left)} malformed left{left}")
+    return status
 
 
 def main(arguments):
     options = words().parse_args(arguments)
-    text = command.read_text(options.file)
-    if len(text) > reading.TEXT_MAX:
-        raise command.Stop(command.TOO_LONG, command.TEXT_TOO_LONG)
+    text, _ = calling.read(options)
+    if calling.is_too_long(text):
+        return calling.finish(options, text, b"" if options.fix else b"refused=23\n")
     if options.fix:
-        return write_fixed(text, options.out)
+        return fixed(options, text)
     run = why.explained(text)
-    command.write_text(options.out, report(run, text).encode())
-    return command.MALFORMED if any(line.fault for line in run.lines) else 0
+    malformed = any(line.fault for line in run.lines)
+    return calling.finish(options, text, report(run, text).encode(), calling.MALFORMED if malformed else calling.DONE)
 
 
 if __name__ == "__main__":
-    command.start("check", main)
+    calling.start(main)

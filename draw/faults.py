@@ -54,8 +54,9 @@ def space(line, fault, rest):
 
 
 def word_at(rest, pattern=rb"[^\s=,]*"):
-    """What stands there, of at most 24 bytes, made safe to show."""
-    return "".join(piece for _, piece in letters(re.match(pattern, rest, re.DOTALL)[0][:24]))
+    """What stands there, of at most 24 bytes, made safe to show; a single space stays one."""
+    found = re.match(pattern, rest, re.DOTALL)[0][:24]
+    return " " if found == b" " else "".join(piece for _, piece in letters(found))
 
 
 def kind(line, fault, rest):

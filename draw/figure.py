@@ -1,12 +1,13 @@
 """One picture, drawn layer by layer where layout.py has put things."""
 
+import colours
 import layout
 import shown
 import svg
 
 MARGIN = layout.MARGIN
 LEAST_WIDTH = 560
-LEGEND_TOP = 92
+LEGEND_TOP = 92  # below title and subtitle
 LAYERS = ("guides", "threads", "lanes", "arrows", "marks", "labels", "frame")
 
 
@@ -159,23 +160,24 @@ class Figure:
 
     # -------------------------------------------------------------- the frame
 
-    def legend(self, width):
+    def legend(self, top, width):
         """What the marks mean, of those that occur, flowing over the width: its markup, and where it ends."""
-        x, y, made = MARGIN, LEGEND_TOP, []
+        x, y, made = MARGIN, top, []
         for words, length, mark in legend_entries(self):
             need = length + 8 + svg.text_width(words, 12, 0.53)
             if x > MARGIN and x + need > width:
                 x, y = MARGIN, y + 24
             made += [mark(x, y), svg.words("key", x + length + 4, y + 4, words, 12)]
             x += need + 12
-        return made, y + 20 if made else LEGEND_TOP - 20
+        return made, y + 20 if made else top - 20
 
-    def draw(self, title, subtitle, empty):
-        """The whole picture as a text; `empty` is said if there is no lane and no row."""
+    def draw(self, title, subtitle, empty, alone=True):
+        """The whole picture as a text; `empty` is said if there is no row. If it is not alone, the page has its title and its style."""
         place = self.place
         place.settle(0)
+        words = [svg.words("title", MARGIN, 44, title, 21), svg.words("subtitle", MARGIN, 64, subtitle, 12)] if alone else []
         width = max(place.right, MARGIN + svg.text_width(title, 21, 0.65), MARGIN + svg.text_width(subtitle, 12), LEAST_WIDTH)
-        legend, end = self.legend(width)
+        legend, end = self.legend(LEGEND_TOP if alone else 26, width)
         for row in place.rows:
             row.stubs = []
         place.settle(end + 30)
@@ -187,15 +189,16 @@ class Figure:
         self.draw_marks()
         if not place.rows:
             self.add("frame", svg.words("strong", MARGIN, place.top, empty, 13))
-        self.add("frame", svg.words("title", MARGIN, 44, title, 21), svg.words("subtitle", MARGIN, 64, subtitle, 12), *legend)
-        return self.document(title, width + MARGIN, place.bottom + 56)
+        self.add("frame", *words, *legend)
+        return self.document(title, width + MARGIN, place.bottom + 56, alone)
 
-    def document(self, title, width, height):
+    def document(self, title, width, height, alone):
         """The layers, back to front, in one self-contained document."""
         groups = (svg.tag("g", *(markup + "\n" for markup in self.layers[name]), class_=name) for name in LAYERS)
         width, height = round(width), round(height)
         return svg.tag(
-            "svg", svg.tag("title", svg.escape(title)), svg.tag("style", svg.style("light", self.rounds)),
+            "svg", svg.tag("title", svg.escape(title)) if alone else "",
+            svg.tag("style", svg.style(colours.LIGHT, colours.of_rounds(self.rounds, "light"))) if alone else "",
             svg.arrow_heads(self.rounds, 10 if self.place.pitch > 20 else 7), svg.tag("rect", class_="paper", width=width, height=height), *groups,
             xmlns="http://www.w3.org/2000/svg", width=width, height=height, viewBox=f"0 0 {width} {height}") + "\n"
 

@@ -118,9 +118,13 @@ class Layout:
             if self.has_bands() and i and i % BAND_EVERY == 0:
                 y += BAND
             row.y = y
-            y += self.pitch + (self.small + 3 if row.stubs or not row.done else 0)
+            y += self.height(row)
         self.bottom = y
         self.place_lanes()
+
+    def height(self, row):
+        """A row's height: one with a second line of words has more."""
+        return self.pitch + (self.small + 3 if row.stubs or not row.done else 0)
 
     def has_bands(self):
         return self.pitch < SIZES[0][1]

@@ -7,8 +7,6 @@ use the same one. Colours come from classes alone, so that a page can show the s
 import math
 from html import escape
 
-import colours
-
 STYLE = """
 text { font-family: sans-serif; fill: %(ink)s; }
 .paper { fill: %(paper)s; }
@@ -48,16 +46,15 @@ text { font-family: sans-serif; fill: %(ink)s; }
 """
 
 
-def style(theme, rounds, scope=""):
-    """The style sheet of a picture with so many rounds, light or dark; with a scope, for the pictures under it alone."""
-    palette = colours.LIGHT if theme == "light" else colours.DARK
+def style(palette, rounds, scope=""):
+    """The style sheet of a picture in these colours, those of its rounds apart; with a scope, for the pictures under it alone."""
     rules = (STYLE % palette).strip().splitlines()
-    for number, colour in enumerate(colours.of_rounds(rounds, theme), 1):
+    for number, colour in enumerate(rounds, 1):
         rules += [f".s{number} {{ stroke: {colour}; }}", f".f{number} {{ fill: {colour}; }}"]
-    if not scope:
-        return "\n".join(rules) + "\n"
-    parts = (rule.split("{", 1) for rule in rules)
-    return "\n".join(", ".join(f"{scope} {one.strip()}" for one in names.split(",")) + " {" + rest for names, rest in parts) + "\n"
+    if scope:
+        parts = (rule.split("{", 1) for rule in rules)
+        rules = [", ".join(f"{scope} {one.strip()}" for one in names.split(",")) + " {" + rest for names, rest in parts]
+    return "\n".join(rules) + "\n"
 
 
 def show(value):

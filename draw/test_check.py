@@ -229,13 +229,15 @@ class CommandsTest(unittest.TestCase):
         command = f'exec "$0" -B "$1" "$2" {tail}'
         return subprocess.run(["bash", "-c", command, sys.executable, str(HERE / f"{name}.py"), str(EXAMPLES[0])], capture_output=True)
 
-    def test_wrong_use(self):
+    def test_wrong_use_and_files_that_cannot_be_read(self):
         for name in self.NAMES:
-            for words in (["--no-such"], ["no such file"], [HERE], [EXAMPLES[0], EXAMPLES[1]], ["-o"], ["\udcff"]):
+            for words, status in ((["--no-such"], 2), ([EXAMPLES[0], EXAMPLES[1]], 2), (["-o"], 2), (["no such file"], 4), ([HERE], 4), (["\udcff"], 4)):
                 with self.subTest(name=name, words=words):
                     done = self.call(name, *words)
-                    self.ends(done, 2)
+                    self.ends(done, status)
                     self.assertEqual(done.stdout, b"")
+        for words in (["--lines", "9-5"], ["--lines", "99-"], ["--benches", "17"]):
+            self.ends(self.call("draw", *words, EXAMPLES[0]), 2)
 
     def test_help(self):
         for name in self.NAMES:

@@ -20,7 +20,7 @@ import shown
 import svg
 
 ROOT = Path(__file__).resolve().parent.parent
-sys.path.insert(0, str(ROOT / "tests"))
+sys.path.append(str(ROOT / "tests"))
 import generate  # noqa: E402
 
 EXAMPLES = sorted((ROOT / "examples").glob("*.txt"))
@@ -156,6 +156,9 @@ class ContentTest(unittest.TestCase):
             if keys and rows:
                 self.assertLess(max(keys), min(rows))
 
+    def test_a_text_too_long(self):
+        self.assertIn("Refused with 23: the text is longer than 65,536 bytes.", Picture(b"\n" * (reading.TEXT_MAX + 1)).words())
+
     def test_no_text_and_nothing_done(self):
         self.assertIn("The text has no line.", Picture(b"").words())
         words = Picture(b"step=turn  bench=1\n\n").words()
@@ -243,12 +246,12 @@ class PartsTest(unittest.TestCase):
         self.assertEqual([draw.line_range(w) for w in ("5-9", "5-", "5")], [(5, 9), (5, reading.TEXT_MAX), (5, 5)])
         self.assertEqual(draw.bench_set("1,16"), {1, 16})
         for wrong in ("", "0-3", "9-5", "a", "5-9-11", "-4", "\u0665"):
-            with self.assertRaises(draw.command.Stop):
+            with self.assertRaises(draw.calling.Failure):
                 draw.line_range(wrong)
         for wrong in ("", "0", "17", "1,,2", "1;2", "01"):
-            with self.assertRaises(draw.command.Stop):
+            with self.assertRaises(draw.calling.Failure):
                 draw.bench_set(wrong)
-        with self.assertRaises(draw.command.Stop):
+        with self.assertRaises(draw.calling.Failure):
             Picture(b"step=turn bench=1\n", lines=(2, 3))
 
 
