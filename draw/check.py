@@ -1,7 +1,5 @@
 """Says of a run text which lines are malformed, where and why, and of each refused step what was missing: `check.py [--fix] [FILE]`."""
 
-import itertools
-
 import calling
 import mend
 import shown
@@ -16,36 +14,51 @@ def words():
     return parser
 
 
-def told(line, number, meanings):
-    """One refused or malformed line told; `number` is what it is called, as several alike are told once."""
+def told(line, meanings):
+    """What there is to say of one refused or malformed line, below the row that names it."""
     if line.fault:
         shown_line, caret = shown.with_caret(line.text, line.fault.at, MOST)
-        rows = [f"{number} malformed (20): {line.why.short}", f"    {shown_line}", f"    {caret}"]
         nearest = mend.mend(line.text)
-        return rows + ([f"  {words}" for words in told_nearest(nearest)] if nearest else ["  no right line is near it"])
-    rows = [f"{number} refused ({line.answer}): {meanings.get(line.answer, 'see docs/REFUSALS.md')}", f"    {shown.legible(line.text, MOST)}"]
-    return rows + [f"  {words}" for words in line.why.words] + [f"  {meant}: {helps}" for meant, helps in why.help_lines(line.why)]
+        return line.why.short, [f"    {shown_line}", f"    {caret}", *(told_nearest(nearest) if nearest else ["  no right line is near it"])]
+    rows = [f"    {shown.legible(line.text, MOST)}", *(f"  {words}" for words in line.why.words)]
+    return meanings.get(line.answer, "see docs/REFUSALS.md"), rows + [f"  {meant}: {helps}" for meant, helps in why.help_lines(line.why)]
 
 
 def told_nearest(nearest):
     if not nearest.lines:
-        return ["nearest: leave the line out"]
+        return ["  nearest: leave the line out"]
     guess = "" if nearest.certain else " (a guess: the meaning is in doubt)"
-    return [f"nearest: {line.decode()}{guess}" for line in nearest.lines[:8]]
+    more = [f"  and {len(nearest.lines) - 8} more lines"] if len(nearest.lines) > 8 else []
+    return [f"  nearest: {line.decode()}{guess}" for line in nearest.lines[:8]] + more
+
+
+def alike(lines):
+    """Refused lines in groups: those that follow each other and are told alike."""
+    groups = []
+    for line in lines:
+        last = groups[-1][-1] if groups else None
+        if last and (last.number + 1, last.text, last.why) == (line.number, line.text, line.why):
+            groups[-1].append(line)
+        else:
+            groups.append([line])
+    return groups
 
 
 def report(run, text):
-    """What is said of a text and its run."""
-    meanings, rows = shown.meanings(), []
+    """What is said of a text and its run. What was told of a line before is not told again."""
+    meanings, rows, before = shown.meanings(), [], {}
     if mend.decoded(text) != text:
         rows += ["The text is saved as UTF-16, so no line of it can be read; save it as UTF-8 without a byte order mark, or use --fix.", ""]
-    wrong = (line for line in run.lines if line.answer)
-    places = itertools.count()
-    for _, alike in itertools.groupby(wrong, lambda line: (line.number - next(places), line.text, line.why)):
-        alike = list(alike)
-        first, last = alike[0].number, alike[-1].number
-        number = f"line {first} is" if first == last else f"lines {first} to {last} are each"
-        rows += [*told(alike[0], number, meanings), ""]
+    for group in alike([line for line in run.lines if line.answer]):
+        line, last = group[0], group[-1]
+        name = f"line {line.number} is" if line is last else f"lines {line.number} to {last.number} are each"
+        verdict = f"{name} {'malformed' if line.fault else 'refused'} ({line.answer})"
+        first = before.setdefault((line.text, line.why), line.number)
+        if first != line.number:
+            rows += [f"{verdict}: as in line {first}", ""]
+            continue
+        words, more = told(line, meanings)
+        rows += [f"{verdict}: {words}", *more, ""]
     return "\n".join([*rows, summary(run, text), ""])
 
 

@@ -65,11 +65,11 @@ def kind(line, fault, rest):
         return "the name of the step is missing"
     if word.lower() in reading.KEYS:
         return f"'{word}' has letters in upper case; steps are written small"
-    return f"'{word}' is no step{slip(word, reading.KEYS)}: steps are {', '.join(reading.KEYS)}"
+    return f"'{word}' is no step{slip(word)}: steps are {', '.join(reading.KEYS)}"
 
 
-def slip(word, words):
-    found = mend.near(word.lower(), words)
+def slip(word):
+    found = mend.near(word.lower(), mend.KINDS)
     return f" (a slip of '{found[0]}'?)" if found else ""
 
 
@@ -80,7 +80,7 @@ def key(line, fault, rest):
         return f"{wanted} belongs here"
     if word.lower() == fault.key:
         return f"'{word}' has letters in upper case; keys are written small"
-    if fault.key == "step" and mend.near(word.lower(), reading.KEYS) and rest[len(word):len(word) + 1] != b"=":
+    if fault.key == "step" and mend.near(word.lower(), mend.KINDS) and rest[len(word):len(word) + 1] != b"=":
         return f"{wanted} is missing before '{word}'"
     if word in mend.ALL_KEYS:
         if re.search(rb"\b%s *=" % fault.key.encode(), rest):

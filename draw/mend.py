@@ -5,11 +5,16 @@ comments carry no meaning. Whatever had to be guessed (a forgotten key, a number
 `fix` changes only lines that are beyond doubt.
 """
 
+import functools
 import re
 from dataclasses import dataclass
 
 import reading
 
+REMEMBERED = 65536  # lines of a text are often alike, and at most so many
+WORD_LETTERS = 12  # a longer word is a slip of none
+STEP_LETTERS = 400  # a longer piece is no step written badly
+KINDS = tuple(reading.KEYS)
 ALL_KEYS = ("step", "bench", "value", "world", "from")
 HIGHEST = {"bench": reading.BENCHES[-1], "from": reading.BENCHES[-1], "value": 65535}
 UNSEEN = {**dict.fromkeys(map(ord, "\ufeff\u200b\u200e\u200f\u2060\0")), 0xdca0: " "}  # byte order mark, letters of no width; a Latin-1 space
@@ -38,8 +43,11 @@ class Fixed:
     left: list
 
 
+@functools.lru_cache(REMEMBERED)
 def near(word, words):
     """The one of the words that this is a slip of, and how many slips away it is; None if none or several are."""
+    if len(word) > WORD_LETTERS:
+        return None
     found = {other: slips(word, other) for other in words}
     least = min(found.values())
     best = [other for other, count in found.items() if count == least]
@@ -60,19 +68,20 @@ def slips(one, other):
     return rows[-1][-1]
 
 
+@functools.lru_cache(REMEMBERED)
 def mend(line):
     """The line mended, or None where nothing in it looks like a step."""
     plain = line.decode("utf-8", "surrogateescape").translate(UNSEEN)
     lines, certain = [], b"\0" not in line
-    for piece in re.split("\r", plain[:4000]):
+    for piece in plain.split("\r"):
         piece = " ".join(COMMENT.sub("", piece).lower().split())
         for part in filter(None, steps_in(piece)):
-            guess = Guess(part)
-            if guess.step is None:
+            guess = Guess(part) if len(part) <= STEP_LETTERS else None
+            if guess is None or guess.step is None:
                 return None
             lines.append(reading.spell(guess.step).encode())
             certain = certain and guess.certain
-    return Mended(tuple(lines), certain and len(plain) <= 4000)
+    return Mended(tuple(lines), certain)
 
 
 def steps_in(piece):
@@ -117,7 +126,7 @@ class Guess:
         name = self.fields.pop("step", "").strip("\"',;.")
         if name in reading.KEYS:
             return name
-        found = near(name.split(" ")[0], reading.KEYS) if name else None
+        found = near(name.split(" ")[0], KINDS) if name else None
         if found:
             if found[1] > 1 or " " in name:
                 self.doubt(None)
@@ -174,13 +183,13 @@ def fix(text):
     """The text with every malformed line mended that is beyond doubt; the end of the text stays as it is."""
     plain, lines, changed, left = decoded(text), [], {}, []
     for number, line in enumerate(reading.split(plain), 1):
-        mended = mend(line) if isinstance(reading.read(line), reading.Fault) else None
+        malformed = isinstance(reading.read(line), reading.Fault)
+        mended = mend(line) if malformed else None
         if mended and mended.certain:
             changed[number] = mended.lines
             lines += mended.lines
         else:
             lines.append(line)
-            if isinstance(reading.read(line), reading.Fault):
-                left.append(number)
+            left += [number] if malformed else []
     ended = b"\n" if lines and plain.endswith(b"\n") else b""
     return Fixed(b"\n".join(lines) + ended, changed, left)

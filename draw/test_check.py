@@ -93,6 +93,7 @@ class FaultsTest(unittest.TestCase):
         both = (b"step=turn bench=1", b"step=turn bench=2")
         for line in (b" ".join(both), b"\r".join(both)):
             self.assertEqual(mend.mend(line), mend.Mended(both, True))
+        self.assertEqual(mend.fix(b"\r".join(both * 1500)).text, b"\n".join(both * 1500))
 
     def test_any_bytes_have_a_reason_and_a_right_nearest_line(self):
         rng = random.Random(1)
@@ -205,6 +206,7 @@ class RefusalsTest(unittest.TestCase):
         told = check.report(why.explained(text), text)
         self.assertEqual(re.findall("^lines? .+:", told, re.M), [
             "lines 1 to 4 are each malformed (20):", "lines 5 to 304 are each refused (3):", "line 305 is malformed (20):"])
+        self.assertIn("line 305 is malformed (20): as in line 1\n", told)
         self.assertTrue(told.endswith("305 lines: 0 done, 300 refused, 5 malformed; --fix can mend 5 of them\n"))
 
 

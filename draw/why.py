@@ -4,6 +4,7 @@ What would help is said in lines of run text as well, so that it can be tried: `
 one, and where they are `enough` it is then done too; `instead` is a line that is done in its place.
 """
 
+import functools
 from dataclasses import dataclass
 
 import faults
@@ -48,13 +49,14 @@ def explained(text, watch=None):
 def explain(run, line):
     """The Why of the line that was refused last: the run still stands as the line met it."""
     if line.step is None:
-        return malformed(line)
+        return malformed(line.text)
     return REFUSALS[line.answer](run, line.step)
 
 
-def malformed(line):
-    reason = faults.reason(line.text, line.fault)
-    mended = mend.mend(line.text)
+@functools.lru_cache(mend.REMEMBERED)
+def malformed(text):
+    reason = faults.reason(text, reading.read(text))
+    mended = mend.mend(text)
     nearest = mended.lines[0].decode() if mended and len(mended.lines) == 1 else None
     return Why(reason, (sentence(reason) + ".",), instead=nearest)
 

@@ -234,7 +234,7 @@ def odd(browser, folder):
     for name, text in odd_texts():
         visit = Visit(browser, folder, name, text)
         count = len(visit.lines)
-        for line in sorted({0, count, *(rng.randint(0, count) for _ in range(12))}, key=lambda _: rng.random()):
+        for line in sorted({0, count, *(rng.randint(0, count) for _ in range(8))}, key=lambda _: rng.random()):
             visit.slide(line)
             visit.compare(line)
         moved += visit.ended()
