@@ -75,6 +75,8 @@ def main(arguments):
     options = words().parse_args(arguments)
     text, name = calling.read(options)
     if options.html:
+        if options.lines or options.benches:
+            raise calling.Failure(calling.WRONG_USE, "--html shows the whole run, and takes neither --lines nor --benches")
         import page  # here, since the page draws the picture too
         return calling.finish(options, text, page.page(text, name).encode())
     return calling.finish(options, text, picture(text, name, options.lines, options.benches).encode())

@@ -8,7 +8,7 @@ import svg
 MARGIN = layout.MARGIN
 LEAST_WIDTH = 560
 LEGEND_TOP = 92  # below title and subtitle
-LAYERS = ("guides", "threads", "lanes", "arrows", "marks", "labels", "frame")
+LAYERS = ("guides", "threads", "lanes", "arrows", "marks", "labels", "frame", "column")
 
 
 def kind_of(line):
@@ -53,10 +53,10 @@ class Figure:
             if self.has_lane(row):
                 self.add("guides", svg.line("guide", end, row.y, self.point(row)[0], row.y))
             kind = "source" if row.done else "source faded" if row.rest else "source refused"
-            self.add("labels", svg.words("number", place.source_x - 10, row.y + 4, row.numbers(), place.small),
+            self.add("column", svg.words("number", place.source_x - 10, row.y + 4, row.numbers(), place.small),
                      svg.with_tip(self.tip(row.first), svg.words(kind, place.source_x, row.y + 4, text, size)))
             if not row.done:
-                self.add("labels", svg.words("reason", place.source_x, row.y + 5 + place.small, place.reason(row), place.small))
+                self.add("column", svg.words("reason", place.source_x, row.y + 5 + place.small, place.reason(row), place.small))
 
     # -------------------------------------------------------------- lanes
 
@@ -172,7 +172,8 @@ class Figure:
         return made, y + 20 if made else top - 20
 
     def draw(self, title, subtitle, empty, alone=True):
-        """The whole picture as a text; `empty` is said if there is no row. If it is not alone, the page has its title and its style."""
+        """The whole picture as a text; `empty` is said if there is no row. If it is not alone, the page has its title and its style, and the left column
+        is a picture of its own, to stay in sight."""
         place = self.place
         place.settle(0)
         words = [svg.words("title", MARGIN, 44, title, 21), svg.words("subtitle", MARGIN, 64, subtitle, 12)] if alone else []
@@ -194,13 +195,20 @@ class Figure:
 
     def document(self, title, width, height, alone):
         """The layers, back to front, in one self-contained document."""
-        groups = (svg.tag("g", *(markup + "\n" for markup in self.layers[name]), class_=name) for name in LAYERS)
         width, height = round(width), round(height)
-        return svg.tag(
-            "svg", svg.tag("title", svg.escape(title)) if alone else "",
-            svg.tag("style", svg.style(colours.LIGHT, colours.of_rounds(self.rounds, "light"))) if alone else "",
-            svg.arrow_heads(self.rounds, 10 if self.place.pitch > 20 else 7), svg.tag("rect", class_="paper", width=width, height=height), *groups,
-            xmlns="http://www.w3.org/2000/svg", width=width, height=height, viewBox=f"0 0 {width} {height}") + "\n"
+        paper, heads = svg.tag("rect", class_="paper", width=width, height=height), svg.arrow_heads(self.rounds, 10 if self.place.pitch > 20 else 7)
+        if not alone:
+            beside = svg.tag("rect", class_="paper", y=self.place.top, width=self.place.source_end + 14, height=self.place.bottom - self.place.top)
+            return (self.sheet(width, height, heads, paper, *map(self.layer, LAYERS[:-1]), id="lanes")
+                    + self.sheet(round(self.place.source_end + 14), height, beside, self.layer("column"), id="column"))
+        style = svg.style(colours.LIGHT, colours.of_rounds(self.rounds, "light"))
+        return self.sheet(width, height, svg.tag("title", svg.escape(title)), svg.tag("style", style), heads, paper, *map(self.layer, LAYERS))
+
+    def layer(self, name):
+        return svg.tag("g", *(markup + "\n" for markup in self.layers[name]), class_=name)
+
+    def sheet(self, width, height, *content, **more):
+        return svg.tag("svg", *content, xmlns="http://www.w3.org/2000/svg", width=width, height=height, viewBox=f"0 0 {width} {height}", **more) + "\n"
 
 
 def lane_style(line):

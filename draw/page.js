@@ -137,8 +137,10 @@
     if (now === 0) frame.scrollTop = 0;
     else if (top < frame.scrollTop + 50 || end > frame.scrollTop + frame.clientHeight - 50) frame.scrollTop = top - frame.clientHeight / 2;
     const lane = data.lanes.find(([bench]) => bench === benchAt(now));
+    const column = byId("column"), left = getComputedStyle(column).position === "sticky" ? column.clientWidth : 0;
     if (lane && lane[1] + 130 < frame.clientWidth) frame.scrollLeft = 0;
-    else if (lane && (lane[1] < frame.scrollLeft + 60 || lane[1] > frame.scrollLeft + frame.clientWidth - 130)) frame.scrollLeft = lane[1] - frame.clientWidth / 2;
+    else if (lane && (lane[1] < frame.scrollLeft + left + 40 || lane[1] > frame.scrollLeft + frame.clientWidth - 130))
+      frame.scrollLeft = lane[1] - (left + frame.clientWidth) / 2;
   };
 
   const goTo = (line) => {

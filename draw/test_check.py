@@ -182,15 +182,15 @@ class RefusalsTest(unittest.TestCase):
         start = "step=start bench={} value=9 world=1,2,3,4,5"
         number, words, told = self.told(*(start.format(b) for b in (1, 2, 3)), "step=fail bench=4", "step=turn bench=1")
         self.assertEqual(number, 11)
-        for expected in ("in round 1 with the world 1-5", "bench 2: r1 v9 {1-5} waits", "bench 3: r1 v9 {1-5} waits",
-                         "bench 4: it failed in line 4 and is not noticed", "bench 5: it is fresh"):
+        for expected in ("in round 1 with the world 1-5", "benches 2,3: r1 v9 {1-5} waits on the line",
+                         "bench 4: failed in line 4, and not noticed yet", "bench 5: fresh"):
             self.assertIn(expected, words)
         self.assertEqual((told.enough, told.benches), (False, (2, 3, 4, 5)))
         one = ["step=start bench=1 value=9 world=1,2", "step=start bench=2 value=8 world=1,2", "step=arrive bench=1 from=2", "step=turn bench=1"]
         number, words, told = self.told(*one, "step=turn bench=1")
-        self.assertIn("bench 2: it is still in round 1 and has not yet sent round 2; it awaits bench 1 itself", words)
+        self.assertIn("bench 2: still in round 1, and round 2 not yet sent; awaiting bench 1 there", words)
         number, words, told = self.told(*one, "step=arrive bench=2 from=1", "step=turn bench=1")
-        self.assertIn("it can turn now", words)
+        self.assertIn("able to turn now", words)
         self.assertEqual((told.before, told.enough), (("step=turn bench=2", "step=arrive bench=1 from=2"), True))
 
     def test_who_is_lacked_and_who_started_without(self):
@@ -238,7 +238,7 @@ class CommandsTest(unittest.TestCase):
                     done = self.call(name, *words)
                     self.ends(done, status)
                     self.assertEqual(done.stdout, b"")
-        for words in (["--lines", "9-5"], ["--lines", "99-"], ["--benches", "17"]):
+        for words in (["--lines", "9-5"], ["--lines", "99-"], ["--benches", "17"], ["--html", "--lines", "1-2"]):
             self.ends(self.call("draw", *words, EXAMPLES[0]), 2)
 
     def test_help(self):

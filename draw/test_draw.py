@@ -119,10 +119,10 @@ class ContentTest(unittest.TestCase):
     def test_whole_lines_in_their_order_refused_ones_at_their_place(self):
         for text in texts():
             picture, run = drawn(text), rounds.play(text)
-            sources = picture.all("source", "labels")
+            sources = picture.all("source", "column")
             heights = [float(e.get("y")) for e in sources]
             self.assertEqual(heights, sorted(heights))
-            numbers = [e.text for e in picture.all("number", "labels")]
+            numbers = [e.text for e in picture.all("number", "column")]
             covered = [n for number in numbers for n in range(int(number.split("\u2013")[0]), int(number.split("\u2013")[-1]) + 1)]
             self.assertEqual(covered, [line.number for line in run.lines])
             for number, source in zip(numbers, sources, strict=True):

@@ -160,34 +160,35 @@ def awaiting(run, step):
     seen = [f"{word} {world_text(members)}" for word, members in (("heard", others), ("excused", view.excused), ("missed", view.missed)) if members]
     words = [f"Bench {step.bench} is in round {own.round} with the world {world_text(own.world)}"
              + (f": {'; '.join(seen)}." if seen else " and has nothing of the others yet.")]
-    before, enough = [], True
+    before, enough, said = [], True, {}
     for member, reason in run.awaits(step.bench).items():
-        said, lines = AWAITED[reason](run, step.bench, member, own.round)
-        words.append(f"It awaits bench {member}: {said}.")
+        how, lines = AWAITED[reason](run, step.bench, member)
+        said.setdefault(how, []).append(member)
         before += lines
         enough = enough and bool(lines)
+    words += [f"It awaits {benches_text(members)}: {how}." for how, members in said.items()]
     return Why(f"awaits {world_text(view.awaited)}", tuple(words), tuple(before), enough, benches=tuple(view.awaited))
 
 
-def message_waits(run, number, member, at_round):
-    return f"{message_text(run.waiting(number, member)[0])} waits on its line", [f"step=arrive bench={number} from={member}"]
+def message_waits(run, number, member):
+    return f"{message_text(run.waiting(number, member)[0])} waits on the line", [f"step=arrive bench={number} from={member}"]
 
 
-def not_noticed(run, number, member, at_round):
-    return f"it failed in line {run.benches[member].since} and is not noticed yet", [f"step=notice bench={number} from={member}"]
+def not_noticed(run, number, member):
+    return f"failed in line {run.benches[member].since}, and not noticed yet", [f"step=notice bench={number} from={member}"]
 
 
-def is_fresh(run, number, member, at_round):
-    return "it is fresh, and has to start, abstain or leave; or it fails and is noticed", []
+def is_fresh(run, number, member):
+    return "fresh; wanted is a start, an abstain or a leave, or a fail and its notice", []
 
 
-def not_sent(run, number, member, at_round):
+def not_sent(run, number, member):
     """The member is one round behind: it has to turn first."""
-    awaits = run.awaits(member)
-    behind = f"it is still in round {run.benches[member].round} and has not yet sent round {at_round}"
+    awaits, behind = run.awaits(member), run.benches[member].round
+    still = f"still in round {behind}, and round {behind + 1} not yet sent"
     if awaits:
-        return f"{behind}; it awaits {benches_text(awaits)} itself", []
-    return f"{behind}; it can turn now", [f"step=turn bench={member}", f"step=arrive bench={number} from={member}"]
+        return f"{still}; awaiting {benches_text(awaits)} there", []
+    return f"{still}; able to turn now", [f"step=turn bench={member}", f"step=arrive bench={number} from={member}"]
 
 
 def last_round(run, step):
