@@ -210,6 +210,27 @@ class RefusalsTest(unittest.TestCase):
         self.assertTrue(told.endswith("305 lines: 0 done, 300 refused, 5 malformed; --fix can mend 5 of them\n"))
 
 
+class DocsTest(unittest.TestCase):
+    """docs/LOOKING.md shows what the commands print."""
+
+    def test_what_is_quoted(self):
+        page = (HERE.parent / "docs" / "LOOKING.md").read_text()
+        quoted = re.findall(r"^    \$ (.+)\n((?:(?:    .*)?\n)+?)(?=\S)", page, re.M)
+        self.assertGreaterEqual(len(quoted), 2)
+        for command, output in quoted:
+            done = subprocess.run(["bash", "-c", command], cwd=HERE.parent, capture_output=True, text=True)
+            self.assertEqual(done.stdout, re.sub("^    ", "", output, flags=re.M).rstrip("\n") + "\n")
+
+    def test_commands_that_are_quoted(self):
+        page = (HERE.parent / "docs" / "LOOKING.md").read_text()
+        with tempfile.TemporaryDirectory() as folder:
+            for words in re.findall(r"^    (\./funkenrille .+)$", page, re.M):
+                shell = re.sub(r"(> |-o )(\S+)", rf"\1{folder}/\2", words)
+                done = subprocess.run(["bash", "-c", shell], cwd=HERE.parent, capture_output=True)
+                self.assertEqual((done.returncode, done.stdout, done.stderr), (0, b"", b""), words)
+            self.assertEqual(sorted(os.listdir(folder)), ["page.html", "part.svg", "picture.svg", "two-lanes.svg"])
+
+
 class CommandsTest(unittest.TestCase):
     """How check, draw and page end, whatever their input and output are."""
 
