@@ -23,7 +23,7 @@ class Words(argparse.ArgumentParser):
     """The words of a command; wrong ones end it with one line."""
 
     def __init__(self, name, does):
-        super().__init__(prog=f"funkenrille {name}", description=does, allow_abbrev=False)
+        super().__init__(prog=f"./funkenrille {name}", description=does, allow_abbrev=False)
         self.name = name
         self.add_argument("file", nargs="?", default="-", metavar="FILE", help="the run text; without it, or for -, standard input")
         self.add_argument("-o", metavar="OUT", dest="out", default="-", help="write there instead of standard output")

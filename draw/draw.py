@@ -44,31 +44,33 @@ def title_of(file_name):
     return shown.legible((title[:1].upper() + title[1:]).encode(errors="replace"), 60)
 
 
-def subtitle_of(run, file_name, first, last, benches):
-    lines = run.lines[first - 1:last]
-    refused = sum(line.answer != 0 for line in lines)
-    part = f", of which lines {first} to {last} are shown" if len(lines) < len(run.lines) else ""
-    part += f"; benches {shown.world_text(benches)} alone" if benches else ""
-    name = shown.legible(file_name.encode(errors="replace"), 60)
-    return f"{name}: {shown.many(len(run.lines), 'line')}{part}, {refused or 'none'} refused. Time runs down, a row for each line."
+def subtitle_of(run, name, lines, benches):
+    """What the text has, and which part of it is shown."""
+    refused = sum(line.answer != 0 for line in run.lines)
+    part = [f"lines {lines[0]} to {min(lines[1], len(run.lines))}"] if lines else []
+    part += [f"{shown.benches_text(benches)} alone"] if benches else []
+    words = f"{name}: {shown.many(len(run.lines), 'line')}, {refused or 'none'} refused" + (f"; shown: {', '.join(part)}" if part else "")
+    return f"{words}. Time runs down, a row for each line."
 
 
-def made(run, file_name, lines=None, benches=None):
-    """The figure of a run, or of a part of it, and the words on top."""
+def made(text, file_name, watch=None, lines=None, benches=None):
+    """The figure of a text's run, or of a part of it, and the words on top: title, subtitle, and what is said where there is no row."""
+    title, name = title_of(file_name), shown.legible(file_name.encode(errors="replace"), 60)
+    if calling.is_too_long(text):
+        return figure.Figure(layout.Layout(why.explained(b""), 1, 0, None)), (title, f"{name}: not read.", shown.sentence(calling.TEXT_TOO_LONG) + ".")
+    run = why.explained(text, watch)
     first, last = lines or (1, len(run.lines))
-    last = min(last, len(run.lines))
-    if lines and first > last:
+    if lines and first > len(run.lines):
         raise calling.Failure(calling.WRONG_USE, f"the text has {shown.many(len(run.lines), 'line')}, and --lines begins with {first}")
-    drawn = figure.Figure(layout.Layout(run, first, last, benches))
-    empty = "The text has no line." if not run.lines else "No line of the text is a step of these benches."
-    return drawn, (title_of(file_name), subtitle_of(run, file_name, first, last, benches), empty)
+    drawn = figure.Figure(layout.Layout(run, first, min(last, len(run.lines)), benches))
+    empty = "No line shown is a step of these benches." if run.lines else "The text has no line."
+    return drawn, (title, subtitle_of(run, name, lines, benches), empty)
 
 
 def picture(text, file_name, lines=None, benches=None):
     """The picture of a text; one that is too long gets a picture that says so."""
-    too_long = calling.is_too_long(text)
-    drawn, (title, subtitle, empty) = made(why.explained(b"" if too_long else text), file_name, None if too_long else lines, benches)
-    return drawn.draw(title, subtitle, shown.sentence(calling.TEXT_TOO_LONG) + ".") if too_long else drawn.draw(title, subtitle, empty)
+    drawn, on_top = made(text, file_name, None, lines, benches)
+    return drawn.draw(*on_top)
 
 
 def main(arguments):

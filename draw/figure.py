@@ -74,7 +74,8 @@ class Figure:
             self.add("frame", svg.lane_name(x, y, f"bench {bench}", 12))
             state = place.state_at(bench, before)
             if state and kind_of(state) == "round":  # its mark is further up, or not in the picture
-                self.add("marks", svg.round_mark(x, y + 20, state.sent.round, place.letter))
+                self.add("marks", svg.with_tip(f"bench {bench} is in round {state.sent.round}, since line {state.number}",
+                                               svg.round_mark(x, y + 20, state.sent.round, place.letter)))
         self.draw_foot(bench, x)
 
     def draw_stretch(self, x, top, bottom, style):
@@ -139,7 +140,7 @@ class Figure:
         (x, y), kind, label = self.point(row), kind_of(line), place.label(row)
         if line.step.kind == "notice" and line.step.sender in place.x:
             away = place.x[line.step.sender]
-            self.add("threads", svg.line("thread", away, y, x, y), svg.cross(away, y, 2.5, 1.4))
+            self.add("threads", svg.with_tip(self.tip(line), svg.line("thread", away, y, x, y), svg.cross(away, y, 2.5, 1.4)))
         if kind != "arrive":
             self.add("marks", svg.with_tip(self.tip(line), mark_of(line, kind, x, y, place.letter)))
         if label:
@@ -153,7 +154,7 @@ class Figure:
         x, y = self.point(row)
         awaited = [place.x[b] for b in line.why.benches if b in place.x] if line.answer == 11 else []
         if awaited:
-            self.add("threads", svg.line("awaits", min([x, *awaited]), y, max([x, *awaited]), y))
+            self.add("threads", svg.with_tip(self.tip(line), svg.line("awaits", min([x, *awaited]), y, max([x, *awaited]), y)))
         marks = [svg.awaited_mark(other, y, place.letter) for other in awaited]
         self.add("marks", svg.with_tip(self.tip(line), svg.refusal_mark(x, y, str(line.answer), place.letter - 1.5), *marks))
         self.add("labels", svg.words("label refused", x + 14, y - 4, place.label(row), place.small))

@@ -92,7 +92,7 @@ class Layout:
         if only:
             lines = [line for line in lines if line.step and line.step.bench in only]
         self.rows = grouped(lines)
-        self.benches = sorted(only or self.taking_part(lines))
+        self.benches = sorted(only or self.taking_part(lines)) if lines else []
         self.pitch, self.letter = next((pitch, letter) for most, pitch, letter in SIZES if most is None or len(self.rows) <= most)
         self.small = self.letter - 1.5
         self.takes = defaultdict(list)  # a message's line to the lines that take it

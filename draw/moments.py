@@ -63,6 +63,10 @@ class Recorder:
         if line.answer == 0:
             self.record(run, line)
 
+    def data(self):
+        return {"texts": self.texts.things, "tales": self.tales.things, "lines": self.lines, "meanings": shown.meanings(),
+                "changes": self.changes, "checkpoints": self.checkpoints, "every": CHECKPOINT_EVERY}
+
     def record(self, run, line):
         """The changes of a line that was done: of its bench, and of all others where it sent a message or changed a state."""
         alone = line.step.kind in ("arrive", "notice")
@@ -81,13 +85,3 @@ class Recorder:
 def copied(state):
     """A state to keep; a line on which nothing waits is left out."""
     return {number: {what: value for what, value in bench.items() if not (what.startswith("from") and value == [])} for number, bench in state.items()}
-
-
-def told(text):
-    """The run of a text and its data."""
-    recorder = Recorder()
-    run = why.explained(text, recorder.watch)
-    return run, {
-        "texts": recorder.texts.things, "tales": recorder.tales.things, "lines": recorder.lines, "meanings": shown.meanings(),
-        "changes": recorder.changes, "checkpoints": recorder.checkpoints, "every": CHECKPOINT_EVERY,
-    }

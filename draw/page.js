@@ -61,8 +61,8 @@
   const showStep = () => {
     const step = byId("step");
     if (now === 0) {
-      step.replaceChildren(make("h2", "", "Before the first line"), make("p", "", count
-        ? `All benches are fresh. The text has ${many(count, "line")}.` : "The text has no line."));
+      step.replaceChildren(make("h2", "", count ? "Before the first line" : "No line"), make("p", "", count
+        ? `All benches are fresh. The text has ${many(count, "line")}.` : data.empty));
       return;
     }
     const answer = data.lines.answer[now - 1], tale = data.tales[data.lines.tale[now - 1]];
@@ -146,7 +146,7 @@
   const goTo = (line) => {
     now = Math.max(0, Math.min(count, line));
     byId("slider").value = now;
-    byId("where").textContent = now ? `line ${now} of ${count}` : `before line 1 of ${count}`;
+    byId("where").textContent = now ? `line ${now} of ${count}` : count ? `before line 1 of ${count}` : "no line";
     showStep();
     showBenches();
     showPicture();

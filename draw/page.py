@@ -14,7 +14,6 @@ import calling
 import colours
 import draw
 import moments
-import shown
 import svg
 
 HERE = Path(__file__).resolve().parent
@@ -47,21 +46,25 @@ def for_script(data):
     return json.dumps(data, separators=(",", ":")).replace("<", "\\u003c").replace("\u2028", "\\u2028").replace("\u2029", "\\u2029")
 
 
+def placed(drawn, lines):
+    """Where the page finds each line's row and each lane in the picture."""
+    place = drawn.place
+    rows = [place.row_of[number] for number in range(1, lines + 1)]
+    return {"tops": [round(row.y - place.pitch / 2) for row in rows],
+            "ends": [round(row.y - place.pitch / 2 + place.height(row)) for row in rows],
+            "lanes": [[bench, round(place.x[bench])] for bench in place.benches]}
+
+
 def page(text, file_name):
     """The page of a text; one that is too long gets a page that says so."""
-    too_long = calling.is_too_long(text)
-    run, data = moments.told(b"" if too_long else text)
-    drawn, (title, subtitle, empty) = draw.made(run, file_name)
-    picture = drawn.draw(title, subtitle, shown.sentence(calling.TEXT_TOO_LONG) + "." if too_long else empty, alone=False)
-    place = drawn.place
-    rows = [place.row_of[line.number] for line in run.lines]
-    data["tops"] = [round(row.y - place.pitch / 2) for row in rows]
-    data["ends"] = [round(row.y - place.pitch / 2 + place.height(row)) for row in rows]
-    data["lanes"] = [[bench, round(place.x[bench])] for bench in place.benches]
+    recorder = moments.Recorder()
+    drawn, (title, subtitle, empty) = draw.made(text, file_name, recorder.watch)
+    picture, count = drawn.draw(title, subtitle, empty, alone=False), len(drawn.place.run.lines)
     parts = {
-        "title": escape(title), "subtitle": escape(subtitle.split(". ")[0] + "."), "count": str(len(run.lines)),
+        "title": escape(title), "subtitle": escape(subtitle.split(". ")[0].rstrip(".") + "."), "count": str(count), "picture": picture,
         "style": style(drawn.rounds) + (HERE / "page.css").read_text(encoding="utf-8"),
-        "picture": picture, "data": for_script(data), "script": (HERE / "page.js").read_text(encoding="utf-8"),
+        "script": (HERE / "page.js").read_text(encoding="utf-8"),
+        "data": for_script(recorder.data() | placed(drawn, count) | {"empty": empty}),
     }
     return re.sub(r"\{\{(\w+)\}\}", lambda found: parts[found[1]], (HERE / "page.html").read_text(encoding="utf-8"))
 

@@ -95,6 +95,9 @@ class ContentTest(unittest.TestCase):
     def test_every_mark_has_a_tip(self):
         for text in texts():
             picture, run = drawn(text), rounds.play(text)
+            for layer in ("arrows", "marks", "threads"):
+                for mark in next(g for g in picture.root if g.get("class") == layer):
+                    self.assertTrue(mark.find(SVG + "title").text, layer)
             marked = [line for line in run.lines if line.answer == 0 and line.step.kind != "arrive"]
             tips = [tip.text for g in picture.root if g.get("class") == "marks" for tip in g.iter(SVG + "title")]
             for line in marked:
@@ -234,6 +237,9 @@ class PartsTest(unittest.TestCase):
         steps = [line.step.bench for line in rounds.play(text).lines if str(line.number) in picture.words("number")]
         self.assertEqual(set(steps), {1, 3})
         self.assertIn("r1 from 2", picture.words("tag"))
+        none = Picture(text, benches={9})
+        self.assertCountEqual(none.words(), ["Run", "run.txt: 19 lines, none refused; shown: bench 9 alone. Time runs down, a row for each line.",
+                                             "No line shown is a step of these benches."])
 
     def test_every_part_can_be_drawn(self):
         for seed in range(40):

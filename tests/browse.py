@@ -238,7 +238,10 @@ def odd(browser, folder):
             visit.slide(line)
             visit.compare(line)
         moved += visit.ended()
-    must("longer than 65,536 bytes" in page.page(b"\n" * (reading.TEXT_MAX + 1), "long.txt"), "a text too long is not told so")
+    (Path(folder) / "long.html").write_text(page.page(b"\n" * (reading.TEXT_MAX + 1), "long.txt"), encoding="utf-8")
+    browser.open(Path(folder) / "long.html")
+    must(browser.value("document.querySelector('#step p').textContent") == "Refused with 23: the text is longer than 65,536 bytes.",
+         "a text too long is not told so")
     return moved
 
 
