@@ -57,7 +57,8 @@ def made(text, file_name, watch=None, lines=None, benches=None):
     """The figure of a text's run, or of a part of it, and the words on top: title, subtitle, and what is said where there is no row."""
     title, name = title_of(file_name), shown.legible(file_name.encode(errors="replace"), 60)
     if calling.is_too_long(text):
-        return figure.Figure(layout.Layout(why.explained(b""), 1, 0, None)), (title, f"{name}: not read.", shown.sentence(calling.TEXT_TOO_LONG) + ".")
+        nothing = figure.Figure(layout.Layout(why.explained(b""), 1, 0, None))
+        return nothing, (title, f"{name}: not read.", shown.sentence(calling.TEXT_TOO_LONG) + ".")
     run = why.explained(text, watch)
     first, last = lines or (1, len(run.lines))
     if lines and first > len(run.lines):

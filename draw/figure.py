@@ -173,8 +173,8 @@ class Figure:
         return made, y + 20 if made else top - 20
 
     def draw(self, title, subtitle, empty, alone=True):
-        """The whole picture as a text; `empty` is said if there is no row. If it is not alone, the page has its title and its style, and the left column
-        is a picture of its own, to stay in sight."""
+        """The whole picture as a text; `empty` is said if there is no row. If it is not alone, the page has its title and its style, and
+        the left column is a picture of its own, to stay in sight."""
         place = self.place
         place.settle(0)
         words = [svg.words("title", MARGIN, 44, title, 21), svg.words("subtitle", MARGIN, 64, subtitle, 12)] if alone else []
@@ -209,7 +209,8 @@ class Figure:
         return svg.tag("g", *(markup + "\n" for markup in self.layers[name]), class_=name)
 
     def sheet(self, width, height, *content, **more):
-        return svg.tag("svg", *content, xmlns="http://www.w3.org/2000/svg", width=width, height=height, viewBox=f"0 0 {width} {height}", **more) + "\n"
+        place = {"width": width, "height": height, "viewBox": f"0 0 {width} {height}"}
+        return svg.tag("svg", *content, xmlns="http://www.w3.org/2000/svg", **place, **more) + "\n"
 
 
 def lane_style(line):

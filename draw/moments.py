@@ -84,4 +84,7 @@ class Recorder:
 
 def copied(state):
     """A state to keep; a line on which nothing waits is left out."""
-    return {number: {what: value for what, value in bench.items() if not (what.startswith("from") and value == [])} for number, bench in state.items()}
+    def kept(bench):
+        return {what: value for what, value in bench.items() if value != [] or not what.startswith("from")}
+
+    return {number: kept(bench) for number, bench in state.items()}

@@ -3,9 +3,11 @@
 import os
 import random
 import re
+import signal
 import subprocess
 import sys
 import tempfile
+import time
 import unittest
 from pathlib import Path
 
@@ -254,7 +256,9 @@ class CommandsTest(unittest.TestCase):
 
     def test_wrong_use_and_files_that_cannot_be_read(self):
         for name in self.NAMES:
-            for words, status in ((["--no-such"], 2), ([EXAMPLES[0], EXAMPLES[1]], 2), (["-o"], 2), (["no such file"], 4), ([HERE], 4), (["\udcff"], 4)):
+            wrong = [["--no-such"], [EXAMPLES[0], EXAMPLES[1]], ["-o"]]
+            unread = [["no such file"], [HERE], ["\udcff"]]
+            for words, status in [*((words, 2) for words in wrong), *((words, 4) for words in unread)]:
                 with self.subTest(name=name, words=words):
                     done = self.call(name, *words)
                     self.ends(done, status)
@@ -286,6 +290,18 @@ class CommandsTest(unittest.TestCase):
                 piped = subprocess.run(["bash", "-c", f"set -o pipefail; '{sys.executable}' -B '{HERE / name}.py' | true"], input=b"\n" * 60000,
                                        capture_output=True)
                 self.assertEqual(piped.stderr, b"")
+
+    def test_interrupted(self):
+        for name in self.NAMES:
+            pipes = dict.fromkeys(("stdin", "stdout", "stderr"), subprocess.PIPE)
+            waits = subprocess.Popen([sys.executable, "-B", str(HERE / f"{name}.py")], **pipes)
+            waits.stdin.write(b"step=turn bench=1\n")
+            waits.stdin.flush()
+            time.sleep(1)
+            waits.send_signal(signal.SIGINT)
+            self.assertEqual((waits.wait(20), waits.stderr.read(), waits.stdout.read()), (-signal.SIGINT, b"", b""))
+            for stream in (waits.stdin, waits.stdout, waits.stderr):
+                stream.close()
 
     def test_standard_input_and_out_file(self):
         for name in self.NAMES:

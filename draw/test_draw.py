@@ -106,7 +106,8 @@ class ContentTest(unittest.TestCase):
     def test_messages_that_nobody_took_have_stubs_with_their_receivers(self):
         for text in texts():
             run, expected = rounds.Run(), []
-            lanes = {bench for line in rounds.play(text).lines if line.answer == 0 for bench in {line.step.bench, *(line.sent.world if line.sent else ())}}
+            done = [line for line in rounds.play(text).lines if line.answer == 0]
+            lanes = {bench for line in done for bench in {line.step.bench, *(line.sent.world if line.sent else ())}}
             open_lines = {}  # message to the benches that could take it and have not
             for line in run.play(text):
                 if line.sent:

@@ -25,7 +25,8 @@ def fail(run, line, step):
 
 
 def arrive(run, line, step):
-    return [f"Bench {step.bench} takes {message_text(line.taken)} from bench {step.sender}, sent in line {line.taken.line}.", *still_awaited(run, step.bench)]
+    taken = f"takes {message_text(line.taken)} from bench {step.sender}, sent in line {line.taken.line}"
+    return [f"Bench {step.bench} {taken}.", *still_awaited(run, step.bench)]
 
 
 def notice(run, line, step):
@@ -46,8 +47,8 @@ def turn(run, line, step):
     excused = f", {benches_text(view.excused)} {'is' if len(view.excused) == 1 else 'are'} excused" if view.excused else ""
     if line.decided is not None:
         others = [m for m in view.heard if m != step.bench]
-        agree = f"{benches_text(others)} said {own.value} too, with no wider world{excused}" if others else f"nobody else is left to be heard{excused}"
-        return [f"Bench {step.bench} decides {line.decided} in round {own.round}: {agree}. It sends OUT to all others."]
+        agree = f"{benches_text(others)} said {own.value} too, with no wider world" if others else "nobody else is left to be heard"
+        return [f"Bench {step.bench} decides {line.decided} in round {own.round}: {agree}{excused}. It sends OUT to all others."]
     return [f"Bench {step.bench} cannot decide in round {own.round}: {'; '.join(obstacles(own, view))}{excused}.",
             f"It goes to round {line.sent.round} with those it heard, {world_text(line.sent.world)}, and the least value heard, {line.sent.value}."]
 

@@ -99,10 +99,10 @@ class Visit:
     def compare(self, line):
         """The panel against the report of the text up to this line, and against the model."""
         seen = self.browser.value(PANEL)
-        prefix = self.text if line == len(self.lines) else b"".join(one + b"\n" for one in self.lines[:line])
+        prefix = generate.cut(self.text, line) if line else b""
         report, run = proved(prefix), rounds.play(prefix)
         place = f"{self.name}, line {line}"
-        must(seen["slider"] == line and (line == 0 or seen["where"] == f"line {line} of {len(self.lines)}"), f"{place}: the page is at {seen['where']}")
+        must(seen["slider"] == line and (line == 0 or seen["where"] == f"line {line} of {len(self.lines)}"), f"{place}: it is at {seen['where']}")
         told = [f"bench={b['bench']} state={b['state']} round={b['round']} value={b['decided']}" for b in seen["benches"] if b["state"] != "fresh"]
         must(told == re.findall("^bench=.*", report, re.M), f"{place}: the panel shows {told}, the report is\n{report[-1500:]}")
         if line:
@@ -250,7 +250,8 @@ def full(browser, folder):
     rng = random.Random(65536)
     text = generate.text("run", 159, 70000, "rounds")
     while len(text) < reading.TEXT_MAX - 40:
-        text += rng.choice([b"step=turn bench=%d\n" % rng.randint(1, 16), b"step=arrive bench=%d from=%d\n" % (rng.randint(1, 16), rng.randint(1, 16))])
+        bench, sender = rng.randint(1, 16), rng.randint(1, 16)
+        text += rng.choice([b"step=turn bench=%d\n" % bench, b"step=arrive bench=%d from=%d\n" % (bench, sender)])
     text += b"x" * (reading.TEXT_MAX - len(text))
     must(len(text) == reading.TEXT_MAX, "the text is not full")
     visit = Visit(browser, folder, "full", text)
@@ -271,7 +272,8 @@ def full(browser, folder):
     must(visit.loaded < LOAD_MOST, f"the page of {len(text)} bytes took {visit.loaded:.1f} s to load")
     must(spent < STEP_MOST, f"a step of the page took {spent:.3f} s")
     size = visit.path.stat().st_size
-    return visit.ended(), f"{reading.TEXT_MAX} bytes of text ({count} lines) are a page of {size / 1e6:.1f} MB, loaded in {visit.loaded:.1f} s, {1000 * spent:.0f} ms a step"
+    measured = f"a page of {size / 1e6:.1f} MB, loaded in {visit.loaded:.1f} s, {1000 * spent:.0f} ms a step"
+    return visit.ended(), f"{reading.TEXT_MAX} bytes of text ({count} lines) are {measured}"
 
 
 def main():

@@ -35,7 +35,8 @@ class Browser:
         programs.install("chromium", "chromium")
         self.folder = tempfile.TemporaryDirectory(ignore_cleanup_errors=True)
         (its_in, self.to), (self.come, its_out) = (map(high, pair) for pair in (os.pipe(), os.pipe()))
-        words = ["bash", "-c", f'exec "$@" 3<&{its_in} 4>&{its_out}', "bash", "chromium", *OPTIONS, f"--user-data-dir={self.folder.name}", "about:blank"]
+        browser = ["chromium", *OPTIONS, f"--user-data-dir={self.folder.name}", "about:blank"]
+        words = ["bash", "-c", f'exec "$@" 3<&{its_in} 4>&{its_out}', "bash", *browser]
         quiet = {"stdin": subprocess.DEVNULL, "stdout": subprocess.DEVNULL, "stderr": subprocess.DEVNULL}
         self.process = subprocess.Popen(words, pass_fds=(its_in, its_out), start_new_session=True, **quiet)
         os.close(its_in)

@@ -8,7 +8,8 @@ On N generated texts (all families of generate.py, well-formed and damaged), fro
 - the report of the whole text, and that of its prefixes, is the model's: so the model's states are right after every line;
 - what `check` prints names exactly the lines that are not answered 0, each with its number;
 - what waits on each line and how each running bench views its world, asked of the model after some prefix, is what arrivals and turns meet there;
-- what `check` advises helps: lines to put before a refused one are done, and where they are said to be enough it is done too; a line to put instead is done;
+- what `check` advises helps: lines to put before a refused one are done, and where they are said to be enough it is done too; a line to
+  put instead is done;
 - what `check --fix` changed is well-formed, what it left is not, and mending twice changes nothing more.
 """
 
@@ -57,12 +58,12 @@ def must(held, words, text):
 
 def prefixes(text):
     """Plays a text and compares its reports on the way; gives the number of reports."""
-    lines = reading.split(text)
-    every = max(1, len(lines) // PREFIXES)
+    count = len(reading.split(text))
+    every = max(1, count // PREFIXES)
     run, compared = rounds.Run(), 0
     for line in run.play(text):
-        if line.number % every == 0 or line.number == len(lines):
-            prefix = b"\n".join(lines[:line.number]) + b"\n"
+        if line.number % every == 0 or line.number == count:
+            prefix = generate.cut(text, line.number)
             must(proved(prefix) == rounds.report(run), f"the report after line {line.number}", prefix)
             compared += 1
     return compared
@@ -99,7 +100,8 @@ def advised(run, text, rng):
         if told.before:
             whole = b"\n".join([*before, *(more.encode() for more in told.before), line.text])
             met = answers(proved(whole))[len(before):]
-            must(not any(met[:-1]) and (met[-1] == 0 if told.enough else met[-1] == line.answer), f"the advice before line {line.number}: {told}", whole)
+            wanted = [0] * len(told.before) + [0 if told.enough else line.answer]
+            must(met == wanted, f"the advice before line {line.number}: {told}", whole)
         if told.instead:
             whole = b"\n".join([*before, told.instead.encode()])
             met = answers(proved(whole))[-1]
@@ -162,7 +164,8 @@ def main():
         if options.texts >= 300 and wanted - had:
             print(f"model: no text {name} {sorted(wanted - had)}")
             return 1
-    print(f"model: {options.texts} texts, {count['lines']} lines, {count['reports']} reports of texts and prefixes; no difference; {time.time() - began:.0f} s")
+    said = f"{options.texts} texts, {count['lines']} lines, {count['reports']} reports of texts and prefixes"
+    print(f"model: {said}; no difference; {time.time() - began:.0f} s")
     return 0
 
 
