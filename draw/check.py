@@ -8,10 +8,10 @@ import why
 MOST = 110  # letters of a shown line
 
 
-def words():
-    parser = calling.Words("check", "Says which lines of a run text are malformed, where and why, and why steps were refused.")
-    parser.add_argument("--fix", action="store_true", help="write the text with every line mended that is beyond doubt")
-    return parser
+def parser():
+    words = calling.Words("check", "Says which lines of a run text are malformed, where and why, and why steps were refused.")
+    words.add_argument("--fix", action="store_true", help="write the text with every line mended that is beyond doubt")
+    return words
 
 
 def told(line, meanings):
@@ -71,7 +71,10 @@ def summary(run, text):
 
 
 def fixed(options, text):
-    """Writes the mended text; what was done is said on standard error. The status is that of the text written."""
+    """Writes the mended text; what was done is said on standard error. The status is that of the text written. Of a text that is too long,
+    which is not read to its end, nothing is written: OUT may be the text's own file."""
+    if calling.is_too_long(text):
+        raise calling.Failure(calling.TOO_LONG, calling.TEXT_TOO_LONG)
     done = mend.fix(text)
     left = f": line{'s' if len(done.left) > 1 else ''} {shown.runs_text(done.left)}" if done.left else ""
     status = calling.finish(options, text, done.text, calling.MALFORMED if done.left else calling.DONE)
@@ -80,12 +83,12 @@ def fixed(options, text):
 
 
 def main(arguments):
-    options = words().parse_args(arguments)
+    options = parser().parse_args(arguments)
     text, _ = calling.read(options)
-    if calling.is_too_long(text):
-        return calling.finish(options, text, b"" if options.fix else b"refused=23\n")
     if options.fix:
         return fixed(options, text)
+    if calling.is_too_long(text):
+        return calling.finish(options, text, b"refused=23\n")
     run = why.explained(text)
     malformed = any(line.fault for line in run.lines)
     return calling.finish(options, text, report(run, text).encode(), calling.MALFORMED if malformed else calling.DONE)

@@ -14,12 +14,12 @@ import shown
 import why
 
 
-def words():
-    parser = calling.Words("draw", "Draws a run text as a space-time diagram (SVG).")
-    parser.add_argument("--lines", metavar="A-B", type=line_range, help="only these lines of the text")
-    parser.add_argument("--benches", metavar="1,3", type=bench_set, help="only these benches")
-    parser.add_argument("--html", action="store_true", help="make the page to step through instead, as 'funkenrille page' does")
-    return parser
+def parser():
+    words = calling.Words("draw", "Draws a run text as a space-time diagram (SVG).")
+    words.add_argument("--lines", metavar="A-B", type=line_range, help="only these lines of the text")
+    words.add_argument("--benches", metavar="1,3", type=bench_set, help="only these benches")
+    words.add_argument("--html", action="store_true", help="make the page to step through instead, as 'funkenrille page' does")
+    return words
 
 
 def line_range(text):
@@ -75,7 +75,7 @@ def picture(text, file_name, lines=None, benches=None):
 
 
 def main(arguments):
-    options = words().parse_args(arguments)
+    options = parser().parse_args(arguments)
     text, name = calling.read(options)
     if options.html:
         if options.lines or options.benches:

@@ -19,7 +19,7 @@ def kind_of(line):
 
 
 class Figure:
-    """A layout and its markup. `parts` says which it has: rounds, kinds of marks."""
+    """A layout and its markup, layer by layer."""
 
     def __init__(self, place):
         self.place = place
@@ -91,28 +91,22 @@ class Figure:
 
     def draw_messages(self):
         """Arrows of what was taken, each with its round at the end."""
-        place = self.place
-        for row in place.rows:
-            message = row.first.taken if row.done else None
-            if message is None:
-                continue
-            x, y = self.point(row)
-            tag = f"r{message.round}" if message.round else "OUT"
-            if message.sender in place.x:
-                bus, begin = place.bus_x(message), place.bus[message][1]
-                path = svg.route(place.x[message.sender] if message.line in place.row_of else None, begin, bus, y, x)
-                side = 1 if bus > x else -1
-            else:  # its sender is not in the picture
-                path, side, tag = f"M{x - 30:.1f},{y:.1f}H{x - 3.5:.1f}", -1, f"{tag} from {message.sender}"
-            colour = f"tag f{message.round}" if message.round else "tag faded"
-            at = x + 13 if side > 0 else x - 13 if message.sender not in place.x else x - 13 - self.channel(row.first.step.bench)
-            self.add("arrows", svg.with_tip(self.tip(row.first), svg.arrow(path, message.round, 1.5 if place.pitch > 20 else 1.1),
-                                            svg.words(colour, at, y - 2.5, tag, place.small - 0.5, text_anchor="start" if side > 0 else "end")))
+        for row in self.place.rows:
+            if row.done and row.first.taken:
+                self.draw_message(row, row.first.taken)
 
-    def channel(self, bench):
-        """How far the messages beside a lane reach to the left."""
-        slots = [slot + 1 for message, (slot, _) in self.place.bus.items() if message.sender == bench]
-        return layout.BUS_GAP * max(slots, default=0)
+    def draw_message(self, row, message):
+        place, (x, y) = self.place, self.point(row)
+        tag = f"r{message.round}" if message.round else "OUT"
+        if message.sender in place.x:
+            bus, begin = place.bus_x(message), place.bus[message][1]
+            path = svg.route(place.x[message.sender] if message.line in place.row_of else None, begin, bus, y, x)
+            at, anchor = (x + 13, "start") if bus > x else (x - 13 - place.channel(row.first.step.bench), "end")
+        else:  # its sender is not in the picture
+            path, at, anchor, tag = f"M{x - 30:.1f},{y:.1f}H{x - 3.5:.1f}", x - 13, "end", f"{tag} from {message.sender}"
+        colour = f"tag f{message.round}" if message.round else "tag faded"
+        self.add("arrows", svg.with_tip(self.tip(row.first), svg.arrow(path, message.round, 1.5 if place.pitch > 20 else 1.1),
+                                        svg.words(colour, at, y - 2.5, tag, place.small - 0.5, text_anchor=anchor)))
 
     def draw_stubs(self):
         """Messages that nobody took, with those who did not take them."""
@@ -176,12 +170,10 @@ class Figure:
         """The whole picture as a text; `empty` is said if there is no row. If it is not alone, the page has its title and its style, and
         the left column is a picture of its own, to stay in sight."""
         place = self.place
-        place.settle(0)
+        place.settle(0)  # for the width, in which the legend flows
         words = [svg.words("title", MARGIN, 44, title, 21), svg.words("subtitle", MARGIN, 64, subtitle, 12)] if alone else []
         width = max(place.right, MARGIN + svg.text_width(title, 21, 0.65), MARGIN + svg.text_width(subtitle, 12), LEAST_WIDTH)
         legend, end = self.legend(LEGEND_TOP if alone else 26, width)
-        for row in place.rows:
-            row.stubs = []
         place.settle(end + 30)
         self.draw_source()
         for bench in place.benches:

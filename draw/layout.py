@@ -82,7 +82,7 @@ def grouped(lines):
 
 
 class Layout:
-    """All positions of one picture. `top` is where the rows begin; it is settled when the legend is known."""
+    """All positions of one picture. Rows and lanes have theirs after `settle`, which is told where the rows begin."""
 
     def __init__(self, run, first, last, only):
         self.run = run
@@ -100,6 +100,7 @@ class Layout:
             if line.taken:
                 self.takes[line.taken.line].append(line)
         self.row_of = {line.number: row for row in self.rows for line in row.lines}
+        self.add_stubs()
 
     def taking_part(self, lines):
         """The benches that do a step here or stand in the world of one that has started."""
@@ -112,7 +113,6 @@ class Layout:
     def settle(self, top):
         """Gives each row its height and each lane its place."""
         self.top = top
-        self.add_stubs()
         y = top + 0.9 * self.pitch
         for i, row in enumerate(self.rows):
             if self.has_bands() and i and i % BAND_EVERY == 0:
@@ -140,16 +140,16 @@ class Layout:
         widths += [svg.text_width(self.reason(row), self.small) for row in self.rows if not row.done]
         self.source_end = self.source_x + max(widths, default=0)
         self.bus = self.settle_buses()
-        slots = Counter()
+        self.slots = Counter()  # beside each lane
         for message, (slot, _) in self.bus.items():
-            slots[message.sender] = max(slots[message.sender], slot + 1)
+            self.slots[message.sender] = max(self.slots[message.sender], slot + 1)
         rights, self.x = defaultdict(float), {}
         for row in self.rows:
             for bench, width in self.label_widths(row):
                 rights[bench] = max(rights[bench], width)
         x = self.source_end + 30
         for bench in self.benches:
-            self.x[bench] = x + BUS_GAP * slots[bench] + 8
+            self.x[bench] = x + self.channel(bench) + 8
             x = self.x[bench] + max(LANE_GAP - 8, rights[bench] + 12)
         self.right = x
 
@@ -230,6 +230,10 @@ class Layout:
             taken[slot:slot + 1] = [ends[message]]
             buses[message] = slot, begins[message]
         return buses
+
+    def channel(self, bench):
+        """How far the messages beside a lane reach to the left."""
+        return BUS_GAP * self.slots[bench]
 
     def bus_x(self, message):
         return self.x[message.sender] - 9 - BUS_GAP * self.bus[message][0]

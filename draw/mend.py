@@ -174,8 +174,9 @@ class Guess:
 def decoded(text):
     """A text saved as UTF-16 as UTF-8; any other as it is."""
     code = {b"\xff\xfe": "utf-16-le", b"\xfe\xff": "utf-16-be"}.get(text[:2])
-    if not code and len(text) > 3 and (text[1::2].count(0) > len(text) // 3 or text[0::2].count(0) > len(text) // 3):
-        code = "utf-16-be" if text[0] == 0 else "utf-16-le"
+    if not code and len(text) > 3:
+        even, odd = (half.count(0) / len(half) for half in (text[0::2], text[1::2]))
+        code = "utf-16-le" if odd > 0.9 and even < 0.1 else "utf-16-be" if even > 0.9 and odd < 0.1 else None
     return text.decode(code, "replace").encode() if code else text
 
 

@@ -19,7 +19,7 @@ import svg
 HERE = Path(__file__).resolve().parent
 
 
-def words():
+def parser():
     return calling.Words("page", "Makes a page (HTML) of a run text: the picture, and each bench's state after every line.")
 
 
@@ -70,7 +70,7 @@ def page(text, file_name):
 
 
 def main(arguments):
-    options = words().parse_args(arguments)
+    options = parser().parse_args(arguments)
     text, name = calling.read(options)
     return calling.finish(options, text, page(text, name).encode())
 

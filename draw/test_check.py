@@ -159,9 +159,13 @@ class FixTest(unittest.TestCase):
                 text = path.read_bytes()
                 with self.subTest(seed=seed, path=path.name):
                     damaged = self.damaged(rng, text)
-                    for code in ("utf-8", "utf-16", "utf-16-le"):
+                    for code in ("utf-8", "utf-16", "utf-16-le", "utf-16-be"):
                         fixed = mend.fix(damaged.encode(code))
                         self.assertEqual((fixed.text, fixed.left), (text, []))
+
+    def test_zeros_are_no_utf_16(self):
+        for text in (b"\0" * 9000, b"\0\0\1" * 100, b"step=turn bench=1\n" * 9 + b"\0"):
+            self.assertEqual(mend.decoded(text), text)
 
     def test_right_lines_and_doubtful_ones_stay(self):
         doubtful = [case[0] for case in CASES if not case[4]] + list(FAR)
@@ -273,9 +277,14 @@ class CommandsTest(unittest.TestCase):
             self.assertIn(b"FILE", done.stdout)
 
     def test_too_long(self):
+        long = b"\n" * (reading.TEXT_MAX + 1)
         for name in self.NAMES:
-            done = self.call(name, input=b"\n" * (reading.TEXT_MAX + 1))
-            self.ends(done, 3)
+            self.ends(self.call(name, input=long), 3)
+        with tempfile.NamedTemporaryFile() as file:
+            file.write(long)
+            file.flush()
+            self.ends(self.call("check", "--fix", "-o", file.name, file.name), 3)
+            self.assertEqual(Path(file.name).read_bytes(), long)
 
     def test_input_and_output_that_fail(self):
         for name in self.NAMES:

@@ -155,7 +155,7 @@ def main():
             if difference:
                 pool.terminate()
                 words, text = difference
-                print(f"model: seed {seed}: {words}; the text ({len(text)} bytes): {text[:3000]!r}")
+                print(f"model: seed {seed}: {words}; the text ({len(text)} bytes): {text[:800]!r}")
                 return 1
             count.update(lines=lines, reports=reports)
             met |= numbers
