@@ -90,9 +90,9 @@ def asked(text, rng):
     return 2
 
 
-def advised(run, text, rng):
+def advised(run, rng):
     """Tries the advice given at some refused lines; gives the numbers whose advice was tried."""
-    lines, tried = reading.split(text), set()
+    lines, tried = [b"" if line.fault else line.text for line in run.lines], set()  # what is malformed changes nothing, and may be long
     helped = [line for line in run.lines if line.why and (line.why.before or line.why.instead)]
     for line in rng.sample(helped, min(ADVISED, len(helped))):
         before, told = lines[:line.number - 1], line.why
@@ -138,7 +138,7 @@ def compared(seed):
         checked(run, text, report)
         fixed(text)
         reports = prefixes(text) + asked(text, rng) + 2
-        return seed, len(run.lines), reports, set(answers(report)), advised(run, text, rng), None
+        return seed, len(run.lines), reports, set(answers(report)), advised(run, rng), None
     except Differs as difference:
         return seed, 0, 0, set(), set(), difference.args
 
