@@ -26,7 +26,7 @@ import shown  # noqa: E402
 
 RUN = programs.proved("run")
 LOAD_MOST = 20.0  # seconds
-STEP_MOST = 0.25  # seconds on average, the drawing of the page included
+STEP_MOST = 0.5  # seconds on average, the drawing of the page included, on a machine that does other things too
 
 PANEL = """(() => ({
   where: document.getElementById("where").textContent,
@@ -121,6 +121,15 @@ class Visit:
     def slide(self, line):
         self.browser.value(f"(() => {{ const s = document.getElementById('slider'); s.value = {line}; s.dispatchEvent(new Event('input')); }})()")
 
+    def line(self):
+        return self.browser.value("Number(document.getElementById('slider').value)")
+
+    def wait_for(self, reached):
+        """Waits until the page is at such a line."""
+        until = time.time() + chromium.WAIT
+        while not reached(self.line()):
+            must(time.time() < until, f"{self.name}: the page stays at line {self.line()}")
+
     def ended(self):
         wrongs = self.browser.wrongs()
         must(not wrongs, f"{self.name}: {wrongs}")
@@ -170,15 +179,13 @@ def moves(browser, folder):
     browser.click(x, y)
     visit.compare(3)
     browser.value("location.hash = '#line=13'")
-    browser.value("new Promise((done) => setTimeout(done, 100))")
+    visit.wait_for(lambda line: line == 13)
     visit.compare(13)
     browser.press("ArrowRight")
     browser.press(" ")  # from the end, playing begins at the start
-    until = time.time() + chromium.WAIT
-    while browser.value("Number(document.getElementById('slider').value)") != 2 and time.time() < until:
-        pass
+    visit.wait_for(lambda line: 2 <= line < 14)
     browser.press(" ")
-    visit.compare(2)
+    visit.compare(visit.line())
     return visit.ended()
 
 
