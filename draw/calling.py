@@ -11,6 +11,9 @@ import stat
 import sys
 from pathlib import Path
 
+if sys.version_info < (3, 10):  # each of the three imports this first of all in the folder
+    sys.exit("funkenrille: this Python is older than 3.10")
+
 sys.path.insert(0, str(Path(__file__).resolve().parent.parent / "command"))
 import streams  # noqa: E402
 from status import DONE, NO_STREAM, TOO_LONG, WRONG_USE, Failure  # noqa: E402
