@@ -67,7 +67,8 @@ def summary(run, text):
     refused = sum(line.answer != 0 for line in run.lines) - malformed
     counts = f"{shown.many(len(run.lines), 'line')}: {len(run.lines) - malformed - refused} done, {refused} refused, {malformed} malformed"
     mendable = len(mend.fix(text).changed) if malformed else 0
-    return counts + (f"; --fix can mend {mendable} of them" if mendable else "")
+    first = "Mend what is malformed first: it does nothing, and refusals below it may come of that.\n" if malformed and refused else ""
+    return first + counts + (f"; --fix can mend {mendable} of them" if mendable else "")
 
 
 def fixed(options, text):

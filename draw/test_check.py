@@ -213,7 +213,7 @@ class RefusalsTest(unittest.TestCase):
         self.assertEqual(re.findall("^lines? .+:", told, re.M), [
             "lines 1 to 4 are each malformed (20):", "lines 5 to 304 are each refused (3):", "line 305 is malformed (20):"])
         self.assertIn("line 305 is malformed (20): as in line 1\n", told)
-        self.assertTrue(told.endswith("305 lines: 0 done, 300 refused, 5 malformed; --fix can mend 5 of them\n"))
+        self.assertTrue(told.endswith("may come of that.\n305 lines: 0 done, 300 refused, 5 malformed; --fix can mend 5 of them\n"))
 
 
 class DocsTest(unittest.TestCase):
