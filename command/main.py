@@ -1,5 +1,6 @@
 """The command ./funkenrille: which words it knows, and what each does. docs/COMMAND.md says the same for readers."""
 
+import importlib
 import signal
 import sys
 
@@ -22,7 +23,9 @@ sys.path.insert(1, str(TOP / "draw"))
 USAGE = {
     "run": "run [FILE]      play a run text and print its report",
     "ledger": "ledger [FILE]   play a ledger script and print its report",
+    "check": "check [FILE]    say which lines of a run text are malformed or refused, and why",
     "draw": "draw [FILE]     draw a run text as a space-time diagram (SVG)",
+    "page": "page [FILE]     make a page of it to step through (HTML)",
     "explain": "explain N...    what refusal N means and what to do",
     "help": "help [COMMAND]  this page, or a line on one command",
 }
@@ -98,12 +101,6 @@ def play(name, words):
     return finish(program.report(TOP, name, text), text)
 
 
-def draw(words):
-    import draw as picture  # here, since no other command needs it
-    name, text = one_text(words)
-    return finish(picture.picture(text, "run text" if name == "-" else Path(name).name).encode(), text)
-
-
 def show(text):
     streams.write(text.encode())
     return DONE
@@ -118,10 +115,12 @@ def help_on(words):
 COMMANDS = {
     "run": lambda words: play("run", words),
     "ledger": lambda words: play("ledger_run", words),
-    "draw": draw,
     "explain": lambda words: show(explain.explained(TOP, words)),
     "help": help_on,
 }
+
+
+OWN_WORDS = ("check", "draw", "page")  # modules of draw/, which have options of their own
 
 
 def command(words):
@@ -129,7 +128,9 @@ def command(words):
     name, *rest = words or ["help"]
     if name in ("--help", "-h", "--version"):
         name, rest = "help", words
-    if name not in COMMANDS:
+    if name in OWN_WORDS and "--version" not in rest:
+        return importlib.import_module(name).main(rest)
+    if name not in COMMANDS and name not in OWN_WORDS:
         raise wrong(f"there is no command '{name}'")
     asked, left = plain(rest)
     if asked is version:

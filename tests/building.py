@@ -82,14 +82,14 @@ def finished(child, what):
 
 
 def unwritable(checkout):
-    """Somebody who may not write there, and has no program: one sentence, and status 1."""
+    """Somebody who may not write there, and has no program: one sentence, and status 5."""
     drop = NOBODY if os.geteuid() == 0 else []
     if not drop:
         checkout.top.chmod(0o555)
     child = checkout.start(*drop)
     printed, said = child.communicate(timeout=60)
     checkout.top.chmod(0o755)
-    if child.returncode != 1 or printed or said.count(b"\n") != 1 or b"cannot be written" not in said:
+    if child.returncode != 5 or printed or said.count(b"\n") != 1 or b"cannot be written" not in said:
         programs.stop(f"a checkout that cannot be written: status {child.returncode}, {printed!r}, {said!r}")
 
 
@@ -149,7 +149,7 @@ def refused(checkout):
         source.write("\nfn too_large() -> u8 {\n    256\n}\n")
     child = checkout.start()
     printed, said = child.communicate(timeout=300)
-    if child.returncode != 1 or printed or not said.endswith(b"funkenrille: 'run' could not be built\n") or b"error" not in said:
+    if child.returncode != 5 or printed or not said.endswith(b"funkenrille: 'run' could not be built\n") or b"error" not in said:
         programs.stop(f"a source that is refused: status {child.returncode}, {printed!r}, {said!r}")
 
 

@@ -20,7 +20,7 @@ VERSION = "funkenrille " + (programs.TOP / "VERSION").read_text()
 EXAMPLE = programs.TOP / "examples" / "01-alone.txt"
 PLAYERS = ("run", "ledger", "draw")
 NAMES = (*PLAYERS, "explain", "help")
-DONE, NOT_BUILT, WRONG_USE, TOO_LONG, NO_STREAM = range(5)
+DONE, FOUND, WRONG_USE, TOO_LONG, NO_STREAM, NOT_BUILT = range(6)
 count = 0
 
 
