@@ -1,10 +1,8 @@
 // The front of an answer's line: the number of the line that is answered, and the answer.
-ghost use mathlib.Core.List.{_++_};
 ghost use Prim.Native.Nat.{_+_, _≤_};
 ghost use lib.ListN.{length};
-ghost use Rattle.spelling.specs.Numbers.{ascii, digits};
 ghost use Rattle.spelling.specs.Stored.{Stored, fitting};
-ghost use Rattle.spelling.specs.Storing.{answerText};
+ghost use Rattle.spelling.specs.Answers.{answerText};
 use crate::bytes;
 use crate::decimal;
 use kinds::AnswerNo;
@@ -12,10 +10,10 @@ use kinds::AnswerNo;
 // Stores both from a place on, where the room holds them, and answers the place behind them. Else the room is as it was, and the
 // answer is the place that was given. Two numbers have at most 20 digits, so that they are measured in a short room alone.
 pub fn put_answer(room: &mut [u8], at: usize, line: u32, answer: AnswerNo) -> usize
-    ensures { λ r. ⌜ Stored (now (room .entry)) at (fitting (now (room .entry)) at (ascii "line=" ++ (digits line ++ (ascii " answer=" ++ digits answer)))) r (now (room .exit)) ⌝ }
+    ensures { λ r. ⌜ Stored (now (room .entry)) at (fitting (now (room .entry)) at (answerText line answer)) r (now (room .exit)) ⌝ }
 {
     if bytes::has_room(room, at, 33) {
-        return store_answer(room, at, line, answer);
+        return store_answer_text(room, at, line, answer);
     }
     put_measured(room, at, line, answer)
 }
@@ -28,10 +26,10 @@ fn put_measured(room: &mut [u8], at: usize, line: u32, answer: AnswerNo) -> usiz
     if !bytes::has_room(room, at, count) {
         return at;
     }
-    store_answer(room, at, line, answer)
+    store_answer_text(room, at, line, answer)
 }
 
-fn store_answer(room: &mut [u8], at: usize, line: u32, answer: AnswerNo) -> usize
+fn store_answer_text(room: &mut [u8], at: usize, line: u32, answer: AnswerNo) -> usize
     requires { ⌜ at + length (answerText line answer) ≤ length (now room) ⌝ }
     ensures { λ r. ⌜ Stored (now (room .entry)) at (answerText line answer) r (now (room .exit)) ⌝ }
 {

@@ -1,10 +1,10 @@
--- `store_answer` meets its contract. Three stores in a row. Assumes nothing.
+-- `store_answer_text` meets its contract. Three stores in a row. Assumes nothing.
 use mathlib.Core.List.{_++_}
 use Rattle.spelling.specs.Numbers.{ascii, digits}
 use Rattle.spelling.proofs.Stores.{room-front, room-after, stored-then}
 use borrow.Author.Needs.{needs}
-use Rattle.room.proofs.answer.store_answer.Statement.{statement}
-use Rattle.room.proofs.answer.store_answer.Tie as tie
+use Rattle.room.proofs.answer.store_answer_text.Statement.{statement}
+use Rattle.room.proofs.answer.store_answer_text.Tie as tie
 
 slice-aggregate-store-field : tie.Need-slice-aggregate-store-field
 slice-aggregate-store-field c = search needs
@@ -27,8 +27,8 @@ same-length c = search needs
 returns : tie.Need-returns
 returns c = stored-then (c .before .before .before .before .before .before .before .before .before .before .before .store-field .ensures) (stored-then (c .before .before .before .before .before .before .store-bytes .ensures) (c .before .before .store-short .ensures))
 
-pub store-answer-spec : {M : Type 1} → statement M
-store-answer-spec =
+pub store-answer-text-spec : {M : Type 1} → statement M
+store-answer-text-spec =
     tie.close
     (tie.spec
     slice-aggregate-store-field
