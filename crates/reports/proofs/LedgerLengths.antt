@@ -22,10 +22,11 @@ use Rattle.spelling.specs.declared.LedgerSaid.{LedgerSaid}
 use Rattle.spelling.specs.declared.LedgerSaid.the-variants.{Does, Malformed}
 use Rattle.spelling.specs.LedgerReading.{stepAt, ledgerSaidOf}
 use Rattle.spelling.specs.LedgerSteps.{stepIs, isHandOut}
-use Rattle.ledger_report.specs.Report.{readScript, answerTo, bookAfter, handsOut, answerLine, answerLines, refusedIn, lastLines, reportFor, reportOf}
-use Rattle.ledger_report.proofs.AnswerLine.{answer-short, malformed-short}
-use Rattle.ledger_report.proofs.LastLines.{last-short, last-some}
-use Rattle.ledger_report.proofs.Steps.{step-pays}
+use Rattle.reports.specs.LedgerReport.{readScript, ledgerAnswerTo, bookAfter, handsOut, ledgerLine, ledgerLines, ledgerRefused, lastLines, ledgerReportFor, ledgerReportOf}
+use Rattle.reports.specs.Reported.{numberFor}
+use Rattle.reports.proofs.Settled.{never-22}
+use Rattle.reports.proofs.LedgerLines.{line-short, malformed-short, last-short, last-some}
+use Rattle.reports.proofs.Tags.{step-pays}
 
 -- ---- a step's line has at least 8 bytes
 
@@ -49,33 +50,33 @@ does-long l s e = ⊎-elim (λ (h : 8 ≤ length l). h) (λ (h : length l < 8). 
 
 -- ---- the lines of the answers
 
-pub kept-line : (b : Book) → Kept 16 b → (x : LedgerSaid) → Kept 16 (answerTo b x .book)
-unfolding answerTo answer
+pub kept-line : (b : Book) → Kept 16 b → (x : LedgerSaid) → Kept 16 (ledgerAnswerTo b x .book)
+unfolding ledgerAnswerTo answer
 kept-line b h (Does s) = kept-step 16 b h (stepIs s)
 kept-line b h Malformed = h
 
 -- the line of the answer to x
 abbrev pub lineFor : ℕ → Book → LedgerSaid → List ℕ
-lineFor k b x = answerLine k (answerTo b x .number) (eqb (answerTo b x .number) 0 && handsOut x) (answerTo b x .tags)
+lineFor k b x = ledgerLine k (ledgerAnswerTo b x .number) (eqb (ledgerAnswerTo b x .number) 0 && handsOut x) (ledgerAnswerTo b x .tags)
 
 -- a line pays for its answer, and for each sweep that is then held a tag
 line-pays : (k : ℕ) (b : Book) (l : List ℕ) (x : LedgerSaid) → Kept 16 b → k < 100000 → ledgerSaidOf l ≡ x
-    → length (lineFor k b x) + 11 * length (answerTo b x .book .held) ≤ 21 * suc (length l) + 11 * length (b .held)
-unfolding answerTo answer handsOut
+    → length (lineFor k b x) + 11 * length (ledgerAnswerTo b x .book .held) ≤ 21 * suc (length l) + 11 * length (b .held)
+unfolding ledgerAnswerTo answer handsOut
 line-pays k b l (Does s) h g e =
     let a = step 16 b (stepIs s) in
-    omega (arith, answer-short k (a .number) (eqb (a .number) 0 && isHandOut s) (a .tags), step-pays b h (stepIs s), does-long l s e)
+    omega (arith, line-short k (a .number) (eqb (a .number) 0 && isHandOut s) (a .tags), step-pays b h (stepIs s), does-long l s e)
 line-pays k b l Malformed h g e = omega (arith, malformed-short k g)
 
 lines-pay : (k : ℕ) (b : Book) (ls : List (List ℕ)) → Kept 16 b → k + length ls < 100000
-    → length (answerLines (suc k) b (map ledgerSaidOf ls)) ≤ 21 * bytesIn ls + 11 * length (b .held)
-unfolding answerLines bytesIn
+    → length (ledgerLines (suc k) b (map ledgerSaidOf ls)) ≤ 21 * bytesIn ls + 11 * length (b .held)
+unfolding ledgerLines bytesIn
 lines-pay k b [] h g = omega arith
 lines-pay k b (l ∷ ls) h g =
-    let after = answerTo b (ledgerSaidOf l) .book in
+    let after = ledgerAnswerTo b (ledgerSaidOf l) .book in
     omega (
       arith,
-      length-append (lineFor (suc k) b (ledgerSaidOf l)) (answerLines (suc (suc k)) after (map ledgerSaidOf ls)),
+      length-append (lineFor (suc k) b (ledgerSaidOf l)) (ledgerLines (suc (suc k)) after (map ledgerSaidOf ls)),
       line-pays (suc k) b l (ledgerSaidOf l) h (omega arith) refl,
       lines-pay (suc k) after ls (kept-line b h (ledgerSaidOf l)) (omega arith),
     )
@@ -87,19 +88,22 @@ module _ (text : List ℕ) where
   final = bookAfter (newBook 0) (readScript text)
 
   abbrev refused : ℕ
-  refused = refusedIn (newBook 0) (readScript text)
+  refused = ledgerRefused (newBook 0) (readScript text)
 
-  parts-length : length (reportOf text) ≡ length (answerLines 1 (newBook 0) (readScript text)) + length (lastLines final (length (readScript text)) refused)
-  unfolding reportOf reportFor
+  parts-length : length (ledgerReportOf text) ≡ length (ledgerLines 1 (newBook 0) (readScript text)) + length (lastLines final (length (readScript text)) refused)
+  unfolding ledgerReportOf ledgerReportFor
   parts-length = simp length-append
 
-  pub report-some : 1 ≤ length (reportOf text)
-  report-some = omega (arith, parts-length, last-some final (length (readScript text)) refused)
+  pub ledger-some : 1 ≤ length (ledgerReportOf text)
+  ledger-some = omega (arith, parts-length, last-some final (length (readScript text)) refused)
 
-  answers-short : length text ≤ 65536 → length (answerLines 1 (newBook 0) (readScript text)) ≤ 21 * 65537
+  answers-short : length text ≤ 65536 → length (ledgerLines 1 (newBook 0) (readScript text)) ≤ 21 * 65537
   unfolding readScript newBook
   answers-short h =
       omega (arith, lines-pay 0 (newBook 0) (linesOf text) (kept-new 16 0) (omega (arith, lines-few text)), lines-bytes text)
 
-  pub report-short : length text ≤ 65536 → length (reportOf text) ≤ 1377401
-  report-short h = omega (arith, parts-length, answers-short h, last-short final (length (readScript text)) refused)
+  pub ledger-short : length text ≤ 65536 → length (ledgerReportOf text) ≤ 1377401
+  ledger-short h = omega (arith, parts-length, answers-short h, last-short final (length (readScript text)) refused)
+
+  pub ledger-room : (room : List ℕ) → 1377401 ≤ length room → numberFor text (ledgerReportOf text) room ≡ 22 → ⊥
+  ledger-room room g = never-22 text (ledgerReportOf text) room (λ h. omega (arith, ledger-short h))

@@ -1,7 +1,7 @@
 use Rattle.run_report.proofs.AnswerLines.{line-stored}
 use borrow.Author.Needs.{needs}
-use Rattle.run_report.proofs.answers.store_answer.Statement.{statement}
-use Rattle.run_report.proofs.answers.store_answer.Tie as tie
+use Rattle.run_report.proofs.answers.store_answer_line.Statement.{statement}
+use Rattle.run_report.proofs.answers.store_answer_line.Tie as tie
 
 put-answer-requires : tie.Need-put-answer-requires
 put-answer-requires c κs = search needs
@@ -18,8 +18,8 @@ same-length c = search needs
 returns : tie.Need-returns
 returns c = search line-stored
 
-pub store-answer-spec : {M : Type 1} → statement M
-store-answer-spec =
+pub store-answer-line-spec : {M : Type 1} → statement M
+store-answer-line-spec =
     tie.close
     (tie.spec
     put-answer-requires

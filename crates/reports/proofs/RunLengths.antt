@@ -7,7 +7,7 @@ use mathlib.Core.List.{List, [], _∷_, map}
 use mathlib.Core.Logic.{⊎-elim}
 use mathlib.Core.Path.{_≡_, refl, ap, _∙_}
 use lib.ListN.{length, length-append, length-map}
-use Rattle.published.specs.Rounds.{Run, Bench, newRun, newBench, isFresh, upTo, Step, Answer, refuse, done, step}
+use Rattle.published.specs.Rounds.{Run, Bench, newRun, newBench, isFresh, upTo, Step, Answer, refuse, done, step, runFrom}
 use Rattle.common.specs.Updates.{put}
 use Rattle.common.proofs.Tests.{split}
 use Rattle.common.proofs.Updates.{put-ind}
@@ -27,10 +27,10 @@ use Rattle.spelling.proofs.Places.{le-or-lt}
 use Rattle.spelling.proofs.LineBytes.{bytesIn, lines-few, lines-bytes}
 use Rattle.spelling.proofs.Decimals.{lead-none, lead-some, digits-low, digits-length, small-length}
 use Rattle.spelling.proofs.Theorems.{line-writes-back}
-use Rattle.run_report.specs.Report.{answerTo, answersFrom, runAfter, answerLine, answerLines, lastRound, benchLine, benchLines, refusedIn, totals, reportFor, reportOf}
-use Rattle.run_report.proofs.AnswerLines.{line-length}
-use Rattle.run_report.proofs.BenchLines.{spelled-short}
-use Rattle.run_report.proofs.TotalsLine.{totals-length, refused-few}
+use Rattle.reports.specs.RunReport.{answerTo, answersFrom, stepsOf, runAfter, answerLine, answerLines, lastRound, benchLine, benchLines, refusedIn, totalsOf, runReportFor, runReportOf}
+use Rattle.reports.specs.Reported.{numberFor}
+use Rattle.reports.proofs.Settled.{room-enough}
+use Rattle.reports.proofs.RunLines.{line-length, spelled-short, totals-of-length, refused-few}
 
 -- ---- the lines of the answers
 
@@ -135,17 +135,10 @@ unfolding answersFrom
 answers-count s [] = refl
 answers-count s (x ∷ l) = ap suc (answers-count (answerTo s x .run) l)
 
--- how many of the lines are steps
-stepsIn : List Said → ℕ
-stepsIn [] = 0
-stepsIn (Does a ∷ l) = suc (stepsIn l)
-stepsIn (Malformed ∷ l) = stepsIn l
-
-stood-after : (s : Run) (l : List Said) → stood 16 (runAfter s l) ≤ stood 16 s + stepsIn l
-unfolding runAfter answerTo refuse stepsIn
+stood-after : (s : Run) (l : List Step) → stood 16 (runFrom 16 (upTo 96) s l) ≤ stood 16 s + length l
+unfolding runFrom
 stood-after s [] = omega arith
-stood-after s (Does a ∷ l) = omega (arith, stood-after (step 16 (upTo 96) s (stepOf a) .run) l, step-small s (stepOf a) .1)
-stood-after s (Malformed ∷ l) = stood-after s l
+stood-after s (a ∷ l) = omega (arith, stood-after (step 16 (upTo 96) s a .run) l, step-small s a .1)
 
 -- ---- what lines take of the text
 
@@ -159,13 +152,13 @@ step-long (Turn b) = omega (arith, digits-length (b .0))
 step-long (Arrive b f) = simp length-append (omega (arith, digits-length (b .0)))
 step-long (Notice b f) = simp length-append (omega (arith, digits-length (b .0)))
 
-steps-take : (ls : List (List ℕ)) → length ls + 17 * stepsIn (map (saidOf 16) ls) ≤ bytesIn ls
-unfolding stepsIn bytesIn
+steps-take : (ls : List (List ℕ)) → length ls + 17 * length (stepsOf (map (saidOf 16) ls)) ≤ bytesIn ls
+unfolding stepsOf bytesIn
 steps-take [] = omega arith
 steps-take (l ∷ ls) = go (saidOf 16 l) refl (steps-take ls)
   where
-    go : (x : Said) → saidOf 16 l ≡ x → length ls + 17 * stepsIn (map (saidOf 16) ls) ≤ bytesIn ls
-        → suc (length ls) + 17 * stepsIn (x ∷ map (saidOf 16) ls) ≤ suc (length l) + bytesIn ls
+    go : (x : Said) → saidOf 16 l ≡ x → length ls + 17 * length (stepsOf (map (saidOf 16) ls)) ≤ bytesIn ls
+        → suc (length ls) + 17 * length (stepsOf (x ∷ map (saidOf 16) ls)) ≤ suc (length l) + bytesIn ls
     go (Does a) e h = omega (arith, step-long a, ap length (line-writes-back 16 (omega arith) l a e .0))
     go Malformed e h = omega arith
 
@@ -181,29 +174,32 @@ module _ (text : List ℕ) where
   answers = answersFrom newRun (readText 16 text)
 
   abbrev final : Run
-  final = runAfter newRun (readText 16 text)
+  final = runAfter text
 
-  parts-length : length (reportOf text) ≡ length (answerLines 1 answers) + (length (benchLines 16 final) + length (totals answers))
-  unfolding reportOf reportFor
+  parts-length : length (runReportOf text) ≡ length (answerLines 1 answers) + (length (benchLines 16 final) + length (totalsOf answers))
+  unfolding runReportOf runReportFor
   parts-length = simp length-append
 
-  pub report-some : 1 ≤ length (reportOf text)
-  report-some = omega (arith, parts-length, totals-length answers)
+  pub run-some : 1 ≤ length (runReportOf text)
+  run-some = omega (arith, parts-length, totals-of-length answers)
 
   lines-are : length answers ≡ length (linesOf text)
   unfolding readText
   lines-are = answers-count newRun (readText 16 text) ∙ length-map (linesOf text) (saidOf 16)
 
-  steps-are : length (linesOf text) + 17 * stepsIn (readText 16 text) ≤ length text + 1
+  steps-are : length (linesOf text) + 17 * length (stepsOf (readText 16 text)) ≤ length text + 1
   unfolding readText
   steps-are = omega (arith, steps-take (linesOf text), lines-bytes text)
 
-  pub report-short : length text ≤ 65536 → length (reportOf text) ≤ 1365176
-  report-short h =
+  pub run-short : length text ≤ 65536 → length (runReportOf text) ≤ 1365176
+  run-short h =
       let n = length answers in
       let few : n ≤ length text = omega (arith, lines-are, lines-few text) in
-      let paid : n + 17 * stepsIn (readText 16 text) ≤ length text + 1 = omega (arith, lines-are, steps-are) in
+      let paid : n + 17 * length (stepsOf (readText 16 text)) ≤ length text + 1 = omega (arith, lines-are, steps-are) in
       let a : length (answerLines 1 answers) ≤ 16 * n + digitsUpto n = omega (arith, from-first answers (answers-below newRun (readText 16 text)) (omega arith)) in
-      let b : length (benchLines 16 final) ≤ 67 * stepsIn (readText 16 text) = omega (arith, benches-length 16 final, stood-after newRun (readText 16 text), stood-new 16) in
-      let t : length (totals answers) ≤ 26 = omega (arith, totals-length answers, small-length n (omega arith), small-length (refusedIn answers) (omega (arith, refused-few answers))) in
-      omega (arith, parts-length, most n (stepsIn (readText 16 text)) (omega arith) (omega arith))
+      let b : length (benchLines 16 final) ≤ 67 * length (stepsOf (readText 16 text)) = omega (arith, benches-length 16 final, stood-after newRun (stepsOf (readText 16 text)), stood-new 16) in
+      let t : length (totalsOf answers) ≤ 26 = omega (arith, totals-of-length answers, small-length n (omega arith), small-length (refusedIn answers) (omega (arith, refused-few answers))) in
+      omega (arith, parts-length, most n (length (stepsOf (readText 16 text))) (omega arith) (omega arith))
+
+  pub run-room : (room : List ℕ) → length text ≤ 65536 → 1365176 ≤ length room → numberFor text (runReportOf text) room ≡ 0
+  run-room room h g = room-enough text (runReportOf text) room h (omega (arith, run-short h))

@@ -1,11 +1,12 @@
 -- The report of a ledger script, as docs/LEDGER-SCRIPT.md says under 'What is printed': how lines are answered, and what is printed of the
--- answers and of the book. This file is to be believed. The book is that of `ledger`, for 16 senders; what a line says is `script`'s `lineOf`.
+-- answers and of the book. This file is to be believed. The book is that of crate `book`, for 16 senders.
 use Prim.Native.Nat.{ℕ, zero, suc, _+_}
-use mathlib.Core.Bool.{Bool, true, false, cond, _&&_}
+use mathlib.Core.Bool.{Bool, true, false, _&&_}
 use mathlib.Core.List.{List, [], _∷_, _++_, map}
 use lib.Dec.{eqb}
 use lib.ListN.{length}
 use Rattle.spelling.specs.Numbers.{ascii, digits}
+use Rattle.spelling.specs.Answers.{answerText, totals, refusalOf}
 use Rattle.spelling.specs.Lines.{linesOf}
 use Rattle.book.specs.Book.{Row, unknown, joined, ended, Book, newBook, Answer, answer, step}
 use Rattle.spelling.specs.declared.LedgerSaid.{LedgerSaid}
@@ -18,13 +19,13 @@ use Rattle.spelling.specs.LedgerSteps.{stepIs, isHandOut}
 unfoldable pub readScript : List ℕ → List LedgerSaid
 readScript text = map ledgerSaidOf (linesOf text)
 
-unfoldable pub answerTo : Book → LedgerSaid → Answer
-answerTo b (Does s) = step 16 b (stepIs s)
-answerTo b Malformed = answer 20 [] b
+unfoldable pub ledgerAnswerTo : Book → LedgerSaid → Answer
+ledgerAnswerTo b (Does s) = step 16 b (stepIs s)
+ledgerAnswerTo b Malformed = answer 20 [] b
 
 unfoldable pub bookAfter : Book → List LedgerSaid → Book
 bookAfter b [] = b
-bookAfter b (x ∷ l) = bookAfter (answerTo b x .book) l
+bookAfter b (x ∷ l) = bookAfter (ledgerAnswerTo b x .book) l
 
 -- ---- One line for each line of the script: its number from 1, the answer; of a hand-out that is done the count of tags, and the tags, if any
 
@@ -44,14 +45,14 @@ unfoldable pub handedText : Bool → List ℕ → List ℕ
 handedText true tags = ascii " count=" ++ (digits (length tags) ++ tagsText tags)
 handedText false tags = []
 
-unfoldable pub answerLine : ℕ → ℕ → Bool → List ℕ → List ℕ
-answerLine k a handed tags = ascii "line=" ++ (digits k ++ (ascii " answer=" ++ (digits a ++ (handedText handed tags ++ (10 ∷ [])))))
+unfoldable pub ledgerLine : ℕ → ℕ → Bool → List ℕ → List ℕ
+ledgerLine k a handed tags = answerText k a ++ (handedText handed tags ++ (10 ∷ []))
 
-unfoldable pub answerLines : ℕ → Book → List LedgerSaid → List ℕ
-answerLines k b [] = []
-answerLines k b (x ∷ l) =
-    answerLine k (answerTo b x .number) (eqb (answerTo b x .number) 0 && handsOut x) (answerTo b x .tags)
-    ++ answerLines (suc k) (answerTo b x .book) l
+unfoldable pub ledgerLines : ℕ → Book → List LedgerSaid → List ℕ
+ledgerLines k b [] = []
+ledgerLines k b (x ∷ l) =
+    ledgerLine k (ledgerAnswerTo b x .number) (eqb (ledgerAnswerTo b x .number) 0 && handsOut x) (ledgerAnswerTo b x .tags)
+    ++ ledgerLines (suc k) (ledgerAnswerTo b x .book) l
 
 -- ---- One line for each sender that has joined: its first slot, its open slot, the slot at which it ended or `none`
 
@@ -73,14 +74,11 @@ senderLines (suc n) rows = senderLines n rows ++ senderLine (suc n) (rows (suc n
 unfoldable pub cursorLine : ℕ → ℕ → List ℕ
 cursorLine next held = ascii "next=" ++ (digits next ++ (ascii " held=" ++ (digits held ++ (10 ∷ []))))
 
--- ---- The number of lines, and of lines not answered 0
+-- ---- The number of lines not answered 0
 
-unfoldable pub refusedIn : Book → List LedgerSaid → ℕ
-refusedIn b [] = 0
-refusedIn b (x ∷ l) = cond (eqb (answerTo b x .number) 0) 0 1 + refusedIn (answerTo b x .book) l
-
-unfoldable pub totals : ℕ → ℕ → List ℕ
-totals lines refused = ascii "lines=" ++ (digits lines ++ (ascii " refused=" ++ (digits refused ++ (10 ∷ []))))
+unfoldable pub ledgerRefused : Book → List LedgerSaid → ℕ
+ledgerRefused b [] = 0
+ledgerRefused b (x ∷ l) = refusalOf (ledgerAnswerTo b x .number) + ledgerRefused (ledgerAnswerTo b x .book) l
 
 -- ---- The report
 
@@ -88,9 +86,9 @@ totals lines refused = ascii "lines=" ++ (digits lines ++ (ascii " refused=" ++ 
 unfoldable pub lastLines : Book → ℕ → ℕ → List ℕ
 lastLines b lines refused = senderLines 16 (b .rows) ++ (cursorLine (b .next) (length (b .held)) ++ totals lines refused)
 
-unfoldable pub reportFor : Book → List LedgerSaid → List ℕ
-reportFor b l = answerLines 1 b l ++ lastLines (bookAfter b l) (length l) (refusedIn b l)
+unfoldable pub ledgerReportFor : Book → List LedgerSaid → List ℕ
+ledgerReportFor b l = ledgerLines 1 b l ++ lastLines (bookAfter b l) (length l) (ledgerRefused b l)
 
 -- a script is played on a new ledger
-unfoldable pub reportOf : List ℕ → List ℕ
-reportOf text = reportFor (newBook 0) (readScript text)
+unfoldable pub ledgerReportOf : List ℕ → List ℕ
+ledgerReportOf text = ledgerReportFor (newBook 0) (readScript text)

@@ -1,9 +1,9 @@
 use Rattle.run_report.proofs.BenchLines.{state-put, failed-put}
 use Rattle.tables.specs.Runs.{stateOf}
-use Rattle.run_report.specs.Report.{stateText}
+use Rattle.reports.specs.RunReport.{stateText}
 use borrow.Author.Needs.{needs}
-use Rattle.run_report.proofs.benches.put_state.Statement.{statement}
-use Rattle.run_report.proofs.benches.put_state.Tie as tie
+use Rattle.run_report.proofs.benches.put_state_name.Statement.{statement}
+use Rattle.run_report.proofs.benches.put_state_name.Tie as tie
 
 slice-aggregate-put-bytes : tie.Need-slice-aggregate-put-bytes
 slice-aggregate-put-bytes c = search needs
@@ -83,8 +83,8 @@ returns-6 : tie.Need-returns-6
 unfolding stateText stateOf
 returns-6 c = let r = c .before .before .before .before .before .match .rest in failed-put _ (r .0 .0 .0 .0 .1) (r .0 .0 .0 .1) (r .0 .0 .1) (r .0 .1) (r .1) (c .before .before .put-bytes6 .ensures)
 
-pub put-state-spec : {M : Type 1} → statement M
-put-state-spec =
+pub put-state-name-spec : {M : Type 1} → statement M
+put-state-name-spec =
     tie.close
     (tie.spec
     slice-aggregate-put-bytes

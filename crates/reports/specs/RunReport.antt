@@ -3,16 +3,16 @@
 use Prim.Native.Nat.{ℕ, zero, suc, _+_}
 use mathlib.Core.Bool.{cond}
 use mathlib.Core.List.{List, [], _∷_, _++_}
-use lib.Dec.{eqb}
 use lib.ListN.{length}
-use Rattle.published.specs.Rounds.{Message, Round, Out, State, fresh, running, decided, abstained, left, failed, Decision, none, chosen, Bench, Run, newRun, isFresh, upTo, Answer, refuse, step}
+use Rattle.published.specs.Rounds.{Message, Round, Out, State, fresh, running, decided, abstained, left, failed, Decision, none, chosen, Bench, Run, newRun, isFresh, upTo, Step, Answer, refuse, step, runFrom}
 use Rattle.kinds.specs.Stand.{stepOf}
 use Rattle.spelling.specs.declared.Said.{Said}
 use Rattle.spelling.specs.declared.Said.the-variants.{Does, Malformed}
 use Rattle.spelling.specs.Numbers.{ascii, digits}
+use Rattle.spelling.specs.Answers.{answerText, totals, refusalOf}
 use Rattle.spelling.specs.Reading.{readText}
 
--- ---- How a text is played: a malformed line changes nothing, and reading goes on
+-- ---- How lines are answered: a malformed one changes nothing, and reading goes on
 
 unfoldable pub answerTo : Run → Said → Answer
 answerTo s (Does a) = step 16 (upTo 96) s (stepOf a)
@@ -22,14 +22,20 @@ unfoldable pub answersFrom : Run → List Said → List ℕ
 answersFrom s [] = []
 answersFrom s (x ∷ l) = answerTo s x .number ∷ answersFrom (answerTo s x .run) l
 
-unfoldable pub runAfter : Run → List Said → Run
-runAfter s [] = s
-runAfter s (x ∷ l) = runAfter (answerTo s x .run) l
+-- ---- The run after a text: that of the steps that its lines say
+
+unfoldable pub stepsOf : List Said → List Step
+stepsOf [] = []
+stepsOf (Does a ∷ l) = stepOf a ∷ stepsOf l
+stepsOf (Malformed ∷ l) = stepsOf l
+
+abbrev pub runAfter : List ℕ → Run
+runAfter text = runFrom 16 (upTo 96) newRun (stepsOf (readText 16 text))
 
 -- ---- One line for each input line: its number from 1, the answer
 
 unfoldable pub answerLine : ℕ → ℕ → List ℕ
-answerLine k a = ascii "line=" ++ (digits k ++ (ascii " answer=" ++ (digits a ++ (10 ∷ []))))
+answerLine k a = answerText k a ++ (10 ∷ [])
 
 unfoldable pub answerLines : ℕ → List ℕ → List ℕ
 answerLines k [] = []
@@ -69,15 +75,15 @@ benchLines (suc n) s = benchLines n s ++ benchLine (suc n) (s (suc n))
 
 unfoldable pub refusedIn : List ℕ → ℕ
 refusedIn [] = 0
-refusedIn (a ∷ l) = cond (eqb a 0) 0 1 + refusedIn l
+refusedIn (a ∷ l) = refusalOf a + refusedIn l
 
-unfoldable pub totals : List ℕ → List ℕ
-totals l = ascii "lines=" ++ (digits (length l) ++ (ascii " refused=" ++ (digits (refusedIn l) ++ (10 ∷ []))))
+unfoldable pub totalsOf : List ℕ → List ℕ
+totalsOf answers = totals (length answers) (refusedIn answers)
 
 -- ---- The report
 
-unfoldable pub reportFor : List ℕ → Run → List ℕ
-reportFor answers s = answerLines 1 answers ++ (benchLines 16 s ++ totals answers)
+unfoldable pub runReportFor : List ℕ → Run → List ℕ
+runReportFor answers s = answerLines 1 answers ++ (benchLines 16 s ++ totalsOf answers)
 
-unfoldable pub reportOf : List ℕ → List ℕ
-reportOf text = reportFor (answersFrom newRun (readText 16 text)) (runAfter newRun (readText 16 text))
+unfoldable pub runReportOf : List ℕ → List ℕ
+runReportOf text = runReportFor (answersFrom newRun (readText 16 text)) (runAfter text)

@@ -2,7 +2,7 @@
 use Prim.Native.Nat.{ℕ}
 use mathlib.Core.Path.{_≡_, refl}
 use mathlib.Core.List.{List, [], _∷_}
-use Rattle.published.specs.Rounds.{newRun, newBench, step, find, hasOut, viewOf, got, see, agrees, isAwaited, isHeard, decides, decidesOn, settled, settledOn, nextWorld, heardOn, lesser, nextValue, leastOn, inState, inRound, sending, taking, noticing, choosing, entering, parting, deciding, advancing, turned, leaving, isFresh, isRunning, isFailed, isGone, hasStarted, startedWith, hasAll, inAll, waiting, some, takingFirst, allows, checks, after, refuse, done}
+use Rattle.published.specs.Rounds.{newRun, newBench, step, find, hasOut, viewOf, got, see, agrees, isAwaited, isHeard, decides, decidesOn, settled, settledOn, nextWorld, heardOn, lesser, nextValue, leastOn, inState, inRound, sending, taking, noticing, choosing, entering, parting, deciding, advancing, turned, leaving, isFresh, isRunning, isFailed, isGone, hasStarted, startedWith, hasAll, inAll, waiting, some, takingFirst, allows, checks, after, refuse, done, runFrom}
 use Rattle.common.specs.Worlds.{bit, member, worldOf, everyIn, within}
 use Rattle.common.specs.Benches.{every, isBench}
 use Rattle.common.specs.Updates.{put}
@@ -13,7 +13,7 @@ use Rattle.spelling.specs.Lines.{linesOf}
 use Rattle.spelling.specs.Fields.{isPrefix, digitAt, moreDigits, numberAt, fieldAt}
 use Rattle.spelling.specs.Reading.{memberAt, membersAt, worldAt, keyOf, rareVerbAt, verbAt, startAt, fromAt, restAt, stepAt, saidOf, readText}
 use Rattle.spelling.proofs.Examples.{textOf}
-use Rattle.run_report.specs.Report.{answerTo, answersFrom, runAfter, answerLine, answerLines, stateText, lastRound, valueText, benchLine, benchLines, refusedIn, totals, reportFor, reportOf}
+use Rattle.reports.specs.RunReport.{answerTo, answersFrom, stepsOf, answerLine, answerLines, stateText, lastRound, valueText, benchLine, benchLines, refusedIn, totalsOf, runReportFor, runReportOf}
 
 abbrev pub input : List ℕ
 input = textOf (
@@ -39,6 +39,6 @@ output = textOf (
     "bench=3 state=abstained round=0 value=none" ∷
     "lines=7 refused=1" ∷ [])
 
-pub whole-case : reportOf input ≡ output
-unfolding reportOf reportFor answerTo answersFrom runAfter answerLine answerLines stateText lastRound valueText benchLine benchLines refusedIn totals stepOf digits leads linesOf isPrefix digitAt moreDigits numberAt fieldAt memberAt membersAt worldAt keyOf rareVerbAt verbAt startAt fromAt restAt stepAt saidOf readText newRun newBench step bit member every worldOf everyIn within put find hasOut viewOf got see agrees isAwaited isHeard decides decidesOn settled settledOn nextWorld heardOn lesser nextValue leastOn inState inRound sending taking noticing choosing entering parting deciding advancing turned leaving isBench isFresh isRunning isFailed isGone hasStarted startedWith hasAll inAll waiting some takingFirst allows checks after refuse done judge
+pub whole-case : runReportOf input ≡ output
+unfolding runReportOf runReportFor answerTo answersFrom stepsOf runFrom answerLine answerLines stateText lastRound valueText benchLine benchLines refusedIn totalsOf stepOf digits leads linesOf isPrefix digitAt moreDigits numberAt fieldAt memberAt membersAt worldAt keyOf rareVerbAt verbAt startAt fromAt restAt stepAt saidOf readText newRun newBench step bit member every worldOf everyIn within put find hasOut viewOf got see agrees isAwaited isHeard decides decidesOn settled settledOn nextWorld heardOn lesser nextValue leastOn inState inRound sending taking noticing choosing entering parting deciding advancing turned leaving isBench isFresh isRunning isFailed isGone hasStarted startedWith hasAll inAll waiting some takingFirst allows checks after refuse done judge
 whole-case = refl

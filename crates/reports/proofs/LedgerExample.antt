@@ -12,7 +12,7 @@ use Rattle.book.specs.Book.{only, tagsOf, hasJoined, isOpen, firstSlot, openSlo
 use Rattle.common.specs.Checks.{judge}
 use Rattle.spelling.specs.LedgerReading.{moreTag, tagAt, tagFieldAt, joinAt, sweepAt, closeAt, endAt, handAt, stepAt, ledgerSaidOf}
 use Rattle.spelling.specs.LedgerSteps.{stepIs, isHandOut}
-use Rattle.ledger_report.specs.Report.{readScript, answerTo, bookAfter, handsOut, otherTags, tagsText, handedText, answerLine, answerLines, slotsText, senderLine, senderLines, cursorLine, refusedIn, totals, lastLines, reportFor, reportOf}
+use Rattle.reports.specs.LedgerReport.{readScript, ledgerAnswerTo, bookAfter, handsOut, otherTags, tagsText, handedText, ledgerLine, ledgerLines, slotsText, senderLine, senderLines, cursorLine, ledgerRefused, lastLines, ledgerReportFor, ledgerReportOf}
 
 abbrev pub input : List ℕ
 input = textOf (
@@ -54,6 +54,6 @@ output = textOf (
     "next=2 held=0" ∷
     "lines=15 refused=4" ∷ [])
 
-pub example : reportOf input ≡ output
-unfolding readScript answerTo bookAfter handsOut otherTags tagsText handedText answerLine answerLines slotsText senderLine senderLines cursorLine refusedIn totals lastLines reportFor reportOf digits leads linesOf isPrefix digitAt moreDigits numberAt fieldAt moreTag tagAt tagFieldAt joinAt sweepAt closeAt endAt handAt stepAt ledgerSaidOf stepIs isHandOut only tagsOf hasJoined isOpen firstSlot openSlot isMember mayGo newBook withRow swept cut advanced checks answer after judge step isBench every put
+pub example : ledgerReportOf input ≡ output
+unfolding readScript ledgerAnswerTo bookAfter handsOut otherTags tagsText handedText ledgerLine ledgerLines slotsText senderLine senderLines cursorLine ledgerRefused lastLines ledgerReportFor ledgerReportOf digits leads linesOf isPrefix digitAt moreDigits numberAt fieldAt moreTag tagAt tagFieldAt joinAt sweepAt closeAt endAt handAt stepAt ledgerSaidOf stepIs isHandOut only tagsOf hasJoined isOpen firstSlot openSlot isMember mayGo newBook withRow swept cut advanced checks answer after judge step isBench every put
 example = refl
