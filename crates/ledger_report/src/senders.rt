@@ -3,7 +3,7 @@ ghost use Prim.Native.Nat.{_+_, _≤_};
 ghost use lib.ListN.{length};
 ghost use Rattle.spelling.specs.Stored.{Stored};
 ghost use Rattle.ledger.specs.Seen.{rowIs, rowsOf};
-ghost use Rattle.ledger_report.specs.Report.{slotsText, senderLine, senderLines};
+ghost use Rattle.reports.specs.LedgerReport.{slotsText, senderLine, senderLines};
 use kinds::BenchNo;
 use ledger::Ledger;
 use ledger::Row;
