@@ -1,10 +1,11 @@
 // Plays the ledger script on standard input and prints its report to standard output: docs/LEDGER-SCRIPT.md. Of a text that is too long it
 // prints the refusal alone. Where the output is closed it ends, since there is nobody left to tell.
 use ledger_report::ROOM;
-use ledger_report::Reported;
 use ledger_report::report;
 use libc::STDIN_FILENO;
 use libc::STDOUT_FILENO;
+use reports::Reported;
+use room::totals::put_refusal;
 
 // The input has room for one byte more than a text may have, to see that it is too long.
 fn main() {
@@ -15,12 +16,9 @@ fn main() {
         Reported::Length(length) => {
             io::write_all(STDOUT_FILENO, &room[..length]);
         }
-        Reported::Refused(number) => print_refusal(number),
+        Reported::Refused(number) => {
+            let end = put_refusal(&mut room, 0, number);
+            io::write_all(STDOUT_FILENO, &room[..end]);
+        }
     }
-}
-
-fn print_refusal(number: u8) {
-    io::write_all(STDOUT_FILENO, b"refused=");
-    io::print_decimal(STDOUT_FILENO, number as u64);
-    io::write_all(STDOUT_FILENO, b"\n");
 }

@@ -125,12 +125,17 @@ module _ {text report room a : List ℕ} {r : Reported} (p : Reports text report
       ∙ past-sets report room 0 i (omega (arith, p .bytes, done-length text report room z)))
       (λ e. ap (λ (l : List ℕ). getD l i 0) (p .held ∙ refused-room text report room (eqb-false (numberFor text report room) 0 e)))
 
+  pub room-length : length a ≡ length room
+  room-length = split (eqb (numberFor text report room) 0)
+      (λ e. ap length (p .held ∙ done-room text report room (eqb-true (numberFor text report room) 0 e)) ∙ length-sets room 0 report)
+      (λ e. ap length (p .held ∙ refused-room text report room (eqb-false (numberFor text report room) 0 e)))
+
   -- and a report lies within the room
   pub length-inside : (n : ℕ) → r ≡ Length n → n ≤ length a
   unfolding numberOf lengthOf
   length-inside n e =
       let z : numberFor text report room ≡ 0 = sym (p .number) ∙ ap numberOf e in
-      omega (arith, ap lengthOf e, p .bytes, done-length text report room z, fits text report room z, ap length (p .held ∙ done-room text report room z), length-sets room 0 report)
+      omega (arith, ap lengthOf e, p .bytes, done-length text report room z, fits text report room z, room-length)
 
   -- ---- what C gets
 

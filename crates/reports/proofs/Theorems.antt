@@ -37,6 +37,10 @@ report-stands = settled.report-stands
 pub past-report-kept : {text report room a : List ℕ} {r : Reported} → Reports text report room r a → (i : ℕ) → lengthOf r ≤ i → getD a i 0 ≡ getD room i 0
 past-report-kept = settled.past-kept
 
+-- In any case the room is as long as it was.
+pub room-length-kept : {text report room a : List ℕ} {r : Reported} → Reports text report room r a → length a ≡ length room
+room-length-kept = settled.room-length
+
 -- A report lies within the room.
 pub report-inside : {text report room a : List ℕ} {r : Reported} → Reports text report room r a → (n : ℕ) → r ≡ Length n → n ≤ length a
 report-inside = settled.length-inside

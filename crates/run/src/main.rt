@@ -2,7 +2,8 @@
 // refusal alone. Where the output is closed it ends, since there is nobody left to tell.
 use libc::STDIN_FILENO;
 use libc::STDOUT_FILENO;
-use run_report::Reported;
+use reports::Reported;
+use room::totals::put_refusal;
 use run_report::report;
 
 // The input has room for one byte more than a text may have, to see that it is too long, and the room for the longest report.
@@ -18,12 +19,9 @@ fn run(input: &mut [u8], room: &mut [u8]) {
         Reported::Length(length) => {
             io::write_all(STDOUT_FILENO, &room[..length]);
         }
-        Reported::Refused(number) => print_refusal(number),
+        Reported::Refused(number) => {
+            let end = put_refusal(room, 0, number);
+            io::write_all(STDOUT_FILENO, &room[..end]);
+        }
     }
-}
-
-fn print_refusal(number: u8) {
-    io::write_all(STDOUT_FILENO, b"refused=");
-    io::print_decimal(STDOUT_FILENO, number as u64);
-    io::write_all(STDOUT_FILENO, b"\n");
 }

@@ -1,16 +1,18 @@
+-- `main` writes no byte from past the room: a report lies within it, and so does a refusal. Assumes nothing.
 use Prim.Native.Nat.{ℕ, _≤_}
-use mathlib.Core.Path.{sym}
-use native.Mathlib.Nat.{le-refl}
-use lib.ListN.{length, replicate, length-replicate}
+use native.Mathlib.Omega.{arith}
+use mathlib.Core.List.{List}
+use mathlib.Core.Path.{sym, _∙_}
+use lib.ListN.{length, length-replicate}
 use lib.Seq.{length-take-le}
-use Rattle.ledger_report.proofs.Theorems.{report-inside}
+use Rattle.spelling.proofs.Puts.{Put, put-inside}
+use Rattle.reports.proofs.Theorems.{report-inside, room-length-kept}
 use borrow.Author.Needs.{needs}
 use Rattle.ledger_run.proofs.main.Statement.{statement}
 use Rattle.ledger_run.proofs.main.Tie as tie
 
--- stated of any length: at 1,377,401 the array would be computed
-long-enough : (n : ℕ) → n ≤ length {A = ℕ} (replicate n 0)
-long-enough n = rw (length-replicate {0} {A = ℕ} n 0) (le-refl n)
+end-inside : {l l′ : List ℕ} {next : ℕ} (w : List ℕ) → Put l 0 w next l′ → next ≤ length l′
+end-inside w p = put-inside w p (omega arith)
 
 slice-aggregate-read-full : tie.Need-slice-aggregate-read-full
 slice-aggregate-read-full c = search needs
@@ -31,10 +33,12 @@ enum-known-length : tie.Need-enum-known-length
 enum-known-length c = search needs
 
 array-share-prefix-room : tie.Need-array-share-prefix-room
-array-share-prefix-room c = report-inside (c .before .before .before .report .ensures) (long-enough 1377401) _ (c .before .length .given .1)
+array-share-prefix-room c = report-inside (c .before .before .before .report .ensures) _ (c .before .length .given .1)
 
 slice-aggregate-write-all : tie.Need-slice-aggregate-write-all
-slice-aggregate-write-all c = sym (length-take-le _ _ (report-inside (c .before .before .before .before .report .ensures) (long-enough 1377401) _ (c .before .before .length .given .1)))
+slice-aggregate-write-all c =
+    let m = c .before .before in
+    sym (length-take-le _ _ (report-inside (m .before .before .report .ensures) _ (m .length .given .1)))
 
 write-all-requires : tie.Need-write-all-requires
 write-all-requires c κs = search needs
@@ -42,8 +46,20 @@ write-all-requires c κs = search needs
 enum-known-number : tie.Need-enum-known-number
 enum-known-number c = search needs
 
-print-refusal-requires : tie.Need-print-refusal-requires
-print-refusal-requires c κs = search needs
+slice-aggregate-put-refusal : tie.Need-slice-aggregate-put-refusal
+slice-aggregate-put-refusal c = sym (room-length-kept (c .before .before .before .before .report .ensures) ∙ length-replicate {0} {A = ℕ} 1377401 0)
+
+put-refusal-requires : tie.Need-put-refusal-requires
+put-refusal-requires c κs = search needs
+
+array-share-prefix-room-2 : tie.Need-array-share-prefix-room-2
+array-share-prefix-room-2 c = search end-inside
+
+slice-aggregate-write-all-2 : tie.Need-slice-aggregate-write-all-2
+slice-aggregate-write-all-2 c = sym (length-take-le _ _ (search end-inside))
+
+write-all-requires-2 : tie.Need-write-all-requires-2
+write-all-requires-2 c κs = search needs
 
 returns : tie.Need-returns
 returns c = search needs
@@ -65,6 +81,10 @@ main-spec =
     slice-aggregate-write-all
     write-all-requires
     enum-known-number
-    print-refusal-requires
+    slice-aggregate-put-refusal
+    put-refusal-requires
+    array-share-prefix-room-2
+    slice-aggregate-write-all-2
+    write-all-requires-2
     returns
     returns-2)

@@ -1,9 +1,18 @@
+-- `run` writes no byte from past the room: a report lies within it, and so does a refusal. Assumes nothing.
+use Prim.Native.Nat.{ℕ, _≤_}
+use native.Mathlib.Omega.{arith}
+use mathlib.Core.List.{List}
 use mathlib.Core.Path.{sym}
+use lib.ListN.{length}
 use lib.Seq.{length-take-le}
-use Rattle.run_report.proofs.Theorems.{report-inside}
+use Rattle.spelling.proofs.Puts.{Put, put-inside}
+use Rattle.reports.proofs.Theorems.{report-inside}
 use borrow.Author.Needs.{needs}
 use Rattle.run.proofs.run.Statement.{statement}
 use Rattle.run.proofs.run.Tie as tie
+
+end-inside : {l l′ : List ℕ} {next : ℕ} (w : List ℕ) → Put l 0 w next l′ → next ≤ length l′
+end-inside w p = put-inside w p (omega arith)
 
 read-full-requires : tie.Need-read-full-requires
 read-full-requires c κs = search needs
@@ -21,10 +30,14 @@ enum-known-length : tie.Need-enum-known-length
 enum-known-length c = search needs
 
 slice-reshare-prefix-write-all : tie.Need-slice-reshare-prefix-write-all
-slice-reshare-prefix-write-all c = report-inside (c .before .before .before .before .before .report .ensures) _ (c .before .length .given .1)
+slice-reshare-prefix-write-all c =
+    let m = c .before in
+    report-inside (m .before .before .before .before .report .ensures) _ (m .length .given .1)
 
 slice-aggregate-write-all : tie.Need-slice-aggregate-write-all
-slice-aggregate-write-all c = sym (length-take-le _ _ (report-inside (c .before .before .before .before .before .before .report .ensures) _ (c .before .before .length .given .1)))
+slice-aggregate-write-all c =
+    let m = c .before .before in
+    sym (length-take-le _ _ (report-inside (m .before .before .before .before .report .ensures) _ (m .length .given .1)))
 
 write-all-requires : tie.Need-write-all-requires
 write-all-requires c κs = search needs
@@ -32,8 +45,17 @@ write-all-requires c κs = search needs
 enum-known-number : tie.Need-enum-known-number
 enum-known-number c = search needs
 
-print-refusal-requires : tie.Need-print-refusal-requires
-print-refusal-requires c κs = search needs
+put-refusal-requires : tie.Need-put-refusal-requires
+put-refusal-requires c κs = search needs
+
+slice-reshare-prefix-write-all-2 : tie.Need-slice-reshare-prefix-write-all-2
+slice-reshare-prefix-write-all-2 c = search end-inside
+
+slice-aggregate-write-all-2 : tie.Need-slice-aggregate-write-all-2
+slice-aggregate-write-all-2 c = sym (length-take-le _ _ (search end-inside))
+
+write-all-requires-2 : tie.Need-write-all-requires-2
+write-all-requires-2 c κs = search needs
 
 same-length : tie.Need-same-length
 same-length c = search needs
@@ -66,7 +88,10 @@ run-spec =
     slice-aggregate-write-all
     write-all-requires
     enum-known-number
-    print-refusal-requires
+    put-refusal-requires
+    slice-reshare-prefix-write-all-2
+    slice-aggregate-write-all-2
+    write-all-requires-2
     same-length
     same-length-2
     returns
