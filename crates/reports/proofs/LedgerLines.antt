@@ -60,7 +60,7 @@ sender-short s (ended f o e) = simp length-append (omega (arith, slots-short s f
 senders-short : (n : ℕ) (rows : ℕ → Row) → length (senderLines n rows) ≤ 66 * n
 unfolding senderLines
 senders-short zero rows = omega arith
-senders-short (suc n) rows = omega (arith, length-append (senderLines n rows) (senderLine (suc n) (rows (suc n))), senders-short n rows, sender-short (suc n) (rows (suc n)))
+senders-short (suc n) rows = simp length-append (omega (arith, senders-short n rows, sender-short (suc n) (rows (suc n))))
 
 -- ---- what stands behind the answers' lines
 

@@ -107,7 +107,7 @@ bench-length b x = split (isFresh (x .state)) (λ e. rw e (omega arith)) (λ e. 
 benches-length : (n : ℕ) (s : Run) → length (benchLines n s) ≤ 67 * stood n s
 unfolding benchLines stood
 benches-length zero s = omega arith
-benches-length (suc n) s = omega (arith, length-append (benchLines n s) (benchLine (suc n) (s (suc n))), benches-length n s, bench-length (suc n) (s (suc n)))
+benches-length (suc n) s = simp length-append (omega (arith, benches-length n s, bench-length (suc n) (s (suc n))))
 
 -- ---- a step is answered by a small number, and lets one bench more be not fresh
 

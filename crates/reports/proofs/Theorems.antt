@@ -80,6 +80,10 @@ ledger-room-never-short = ledger.ledger-room
 pub whole-case : runReportOf case.input ≡ case.output
 whole-case = case.whole-case
 
+-- The same of a text with benches that decided, left and failed, and with malformed lines.
+pub ended-case : runReportOf case.ended-input ≡ case.ended-output
+ended-case = case.ended-case
+
 -- The report of a ledger script with P9 and P10 of document 01 in it.
 pub example : ledgerReportOf script.input ≡ script.output
 example = script.example

@@ -6,7 +6,7 @@ use mathlib.Core.List.{List, [], _∷_, _++_}
 use mathlib.Core.Path.{_≡_, refl}
 use lib.Dec.{leb, eqb}
 use lib.ListN.{length, length-append}
-use Rattle.common.proofs.Tests.{cond-ind}
+use Rattle.common.proofs.Tests.{split}
 use Rattle.spelling.specs.Numbers.{ascii, digits, leads}
 use Rattle.spelling.specs.Answers.{answerText, totals, refusalOf, refusalText}
 use Rattle.spelling.specs.Stored.{Stored}
@@ -38,7 +38,7 @@ pub totals-measured : (n r : ℕ) {k m : ℕ} → k ≡ length (digits n) → m 
 totals-measured n r p q = omega (arith, totals-length n r)
 
 pub refusal-one : (a n : ℕ) → n ≡ refusalOf a → n ≤ 1
-refusal-one a n e = rw e (cond-ind (λ m. m ≤ 1) (eqb a 0) 0 1 (λ e. omega arith) (λ e. omega arith))
+refusal-one a n e = rw e (split (eqb a 0) (λ h. rw h (omega arith)) (λ h. rw h (omega arith)))
 
 -- ---- a refusal
 
