@@ -2,8 +2,8 @@
 use Prim.Native.Nat.{ℕ, _≤_}
 use native.Mathlib.Omega.{arith}
 use mathlib.Core.List.{List}
-use mathlib.Core.Path.{sym, _∙_}
-use lib.ListN.{length, length-replicate}
+use mathlib.Core.Path.{_≡_, sym, _∙_}
+use lib.ListN.{length, replicate, length-replicate}
 use lib.Seq.{length-take-le}
 use Rattle.spelling.proofs.Puts.{Put, put-inside}
 use Rattle.reports.proofs.Theorems.{report-inside, room-length-kept}
@@ -13,6 +13,10 @@ use Rattle.ledger_run.proofs.main.Tie as tie
 
 end-inside : {l l′ : List ℕ} {next : ℕ} (w : List ℕ) → Put l 0 w next l′ → next ≤ length l′
 end-inside w p = put-inside w p (omega arith)
+
+-- stated of any length: at 1,377,401 the array would be computed
+still-long : (n : ℕ) (l : List ℕ) → length l ≡ length {A = ℕ} (replicate n 0) → n ≡ length l
+still-long n l e = sym (e ∙ length-replicate {0} {A = ℕ} n 0)
 
 slice-aggregate-read-full : tie.Need-slice-aggregate-read-full
 slice-aggregate-read-full c = search needs
@@ -47,7 +51,7 @@ enum-known-number : tie.Need-enum-known-number
 enum-known-number c = search needs
 
 slice-aggregate-put-refusal : tie.Need-slice-aggregate-put-refusal
-slice-aggregate-put-refusal c = sym (room-length-kept (c .before .before .before .before .report .ensures) ∙ length-replicate {0} {A = ℕ} 1377401 0)
+slice-aggregate-put-refusal c = still-long 1377401 _ (room-length-kept (c .before .before .before .before .report .ensures))
 
 put-refusal-requires : tie.Need-put-refusal-requires
 put-refusal-requires c κs = search needs

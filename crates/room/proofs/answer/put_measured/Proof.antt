@@ -28,21 +28,26 @@ same-length c = search needs
 
 returns : tie.Need-returns
 returns c =
-    let m = answer-measured _ _ (c .before .before .before .before .number-length .ensures) (c .before .before .before .number-length2 .ensures) in
+    let n = c .before .before .before in
+    let m = answer-measured _ _ (n .before .number-length .ensures) (n .number-length2 .ensures) in
     not-fitting _ _ (answerText _ _) (short-measured _ (answerText _ _) _ _ m (room-not (c .before .has-room .ensures) (c .if1 .taken)))
 
 store-answer-text-requires : tie.Need-store-answer-text-requires
 store-answer-text-requires c κs =
-    let m = answer-measured _ _ (c .before .before .before .before .before .number-length .ensures) (c .before .before .before .before .number-length2 .ensures) in
-    room-measured _ (answerText _ _) _ _ m (room-is (c .before .before .has-room .ensures) (c .before .if1 .left))
+    let r = c .before .before in
+    let n = r .before .before in
+    let m = answer-measured _ _ (n .before .number-length .ensures) (n .number-length2 .ensures) in
+    room-measured _ (answerText _ _) _ _ m (room-is (r .has-room .ensures) (c .before .if1 .left))
 
 same-length-2 : tie.Need-same-length-2
 same-length-2 c = search needs
 
 returns-2 : tie.Need-returns-2
 returns-2 c =
-    let m = answer-measured _ _ (c .before .before .before .before .before .before .before .before .number-length .ensures) (c .before .before .before .before .before .before .before .number-length2 .ensures) in
-    stored-fitting (room-measured _ (answerText _ _) _ _ m (room-is (c .before .before .before .before .before .has-room .ensures) (c .before .before .before .before .if1 .left))) (c .before .before .store-answer-text .ensures)
+    let r = c .before .before .before .before .before in
+    let n = r .before .before in
+    let m = answer-measured _ _ (n .before .number-length .ensures) (n .number-length2 .ensures) in
+    stored-fitting (room-measured _ (answerText _ _) _ _ m (room-is (r .has-room .ensures) (c .before .before .before .before .if1 .left))) (c .before .before .store-answer-text .ensures)
 
 pub put-measured-spec : {M : Type 1} → statement M
 put-measured-spec =

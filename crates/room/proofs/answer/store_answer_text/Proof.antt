@@ -16,16 +16,24 @@ slice-aggregate-store-bytes : tie.Need-slice-aggregate-store-bytes
 slice-aggregate-store-bytes c = search needs
 
 store-bytes-requires : tie.Need-store-bytes-requires
-store-bytes-requires c κs = room-front _ (ascii " answer=") (digits _) (room-after (ascii " answer=" ++ digits _) (c .before .before .before .before .store-field .ensures) (c .before .before .before .before .before .before .before .before .pre))
+store-bytes-requires c κs =
+    let s = c .before .before .before .before in
+    room-front _ (ascii " answer=") (digits _) (room-after (ascii " answer=" ++ digits _) (s .store-field .ensures) (s .before .before .before .before .pre))
 
 store-short-requires : tie.Need-store-short-requires
-store-short-requires c κs = room-after (digits _) (c .before .before .before .store-bytes .ensures) (room-after (ascii " answer=" ++ digits _) (c .before .before .before .before .before .before .before .before .store-field .ensures) (c .before .before .before .before .before .before .before .before .before .before .before .before .pre))
+store-short-requires c κs =
+    let t = c .before .before .before in
+    let s = t .before .before .before .before .before in
+    room-after (digits _) (t .store-bytes .ensures) (room-after (ascii " answer=" ++ digits _) (s .store-field .ensures) (s .before .before .before .before .pre))
 
 same-length : tie.Need-same-length
 same-length c = search needs
 
 returns : tie.Need-returns
-returns c = stored-then (c .before .before .before .before .before .before .before .before .before .before .before .store-field .ensures) (stored-then (c .before .before .before .before .before .before .store-bytes .ensures) (c .before .before .store-short .ensures))
+returns c =
+    let u = c .before .before in
+    let t = u .before .before .before .before in
+    stored-then (t .before .before .before .before .before .store-field .ensures) (stored-then (t .store-bytes .ensures) (u .store-short .ensures))
 
 pub store-answer-text-spec : {M : Type 1} → statement M
 store-answer-text-spec =
