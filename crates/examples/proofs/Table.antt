@@ -16,7 +16,7 @@ use Rattle.kinds.specs.Stand.{stepOf}
 use Rattle.spelling.specs.Numbers.{ascii}
 use Rattle.spelling.specs.Fields.{isPrefix, digitAt, moreDigits, numberAt, fieldAt}
 use Rattle.spelling.specs.Reading.{memberAt, membersAt, worldAt, keyOf, rareVerbAt, verbAt, startAt, fromAt, restAt, stepAt, saidOf}
-use Rattle.run_report.specs.Report.{answerTo}
+use Rattle.reports.specs.RunReport.{answerTo}
 use Rattle.book.specs.Book as ledger
 use Rattle.book.specs.Book.{Book, newBook, only, tagsOf, hasJoined, isOpen, firstSlot, openSlot, isMember, mayGo, withRow, swept, cut, advanced}
 

@@ -2,15 +2,13 @@
 use Prim.Native.Nat.{ℕ, suc, _+_, _-_, _≤_, _<_}
 use native.Mathlib.Omega.{arith}
 use native.Mathlib.Nat.{add-zero, zero-add}
-use mathlib.Core.Bool.{false, cond}
+use mathlib.Core.Bool.{false}
 use mathlib.Core.List.{List, [], _∷_, _++_, append-assoc, append-nil}
 use mathlib.Core.Logic.{⊎-elim}
 use mathlib.Core.Path.{_≡_, refl, sym, ap, _∙_}
-use lib.Dec.{eqb}
 use lib.ListN.{length, take, drop, length-append, length-drop, drop-of-length-le}
 use lib.Seq.{take-at, length-take-le}
 use borrow.Author.Tests.{lt-ltb, le-ltb}
-use Rattle.common.proofs.Tests.{cond-ind}
 use Rattle.spelling.specs.Stored.{Stored}
 use Rattle.spelling.specs.Lines.{linesOf}
 use Rattle.spelling.specs.Fields.{lineLength, lineAt, nextFrom, nextAt}
@@ -30,10 +28,13 @@ use Rattle.ledger_text.specs.declared.Played.{Played}
 use Rattle.spelling.specs.LedgerReading.{ledgerSaidOf}
 use Rattle.spelling.specs.LedgerSteps.{stepIs}
 use Rattle.ledger_text.specs.Playing.{Plays}
-use Rattle.ledger_report.specs.Report.{readScript, answerTo, bookAfter, handsOut, answerLine, answerLines, senderLines, cursorLine, refusedIn, totals, lastLines, reportFor, reportOf}
-use Rattle.ledger_report.specs.Parts.{ledgerLines}
-use Rattle.ledger_report.proofs.Steps.{tags-few, count-held}
-use Rattle.ledger_report.proofs.Lengths.{kept-line, lineFor}
+use Rattle.reports.specs.LedgerReport.{readScript, ledgerAnswerTo, bookAfter, handsOut, ledgerLine, ledgerLines, senderLines, cursorLine, ledgerRefused, lastLines, ledgerReportFor, ledgerReportOf}
+use Rattle.spelling.specs.Answers.{totals, refusalOf}
+use Rattle.ledger_report.specs.Parts.{seenLines}
+use Rattle.spelling.proofs.Answers.{refusal-one}
+use Rattle.reports.proofs.Tags.{tags-few}
+use Rattle.reports.proofs.LedgerLengths.{kept-line, lineFor}
+use Rattle.ledger_report.proofs.Steps.{count-held}
 
 -- ---- the line at a place, and the others
 
@@ -67,28 +68,25 @@ script-none text at h = rw (drop-of-length-le text h) refl
 -- ---- the report from a line on: k lines were played, r of them refused
 
 abbrev refusal : Book → LedgerSaid → ℕ
-refusal b x = cond (eqb (answerTo b x .number) 0) 0 1
-
-pub one-at-most : (k n : ℕ) → n ≡ cond (eqb k 0) 0 1 → n ≤ 1
-one-at-most k n e = rw e (cond-ind (λ m. m ≤ 1) (eqb k 0) 0 1 (λ e. omega arith) (λ e. omega arith))
+refusal b x = refusalOf (ledgerAnswerTo b x .number)
 
 unfoldable pub restOf : ℕ → ℕ → Book → List LedgerSaid → List ℕ
 restOf k r b [] = lastLines b k r
-restOf k r b (x ∷ l) = lineFor (k + 1) b x ++ restOf (k + 1) (r + refusal b x) (answerTo b x .book) l
+restOf k r b (x ∷ l) = lineFor (k + 1) b x ++ restOf (k + 1) (r + refusal b x) (ledgerAnswerTo b x .book) l
 
-rest-is : (k r : ℕ) (b : Book) (l : List LedgerSaid) → restOf k r b l ≡ answerLines (suc k) b l ++ lastLines (bookAfter b l) (k + length l) (r + refusedIn b l)
-unfolding restOf answerLines bookAfter refusedIn
+rest-is : (k r : ℕ) (b : Book) (l : List LedgerSaid) → restOf k r b l ≡ ledgerLines (suc k) b l ++ lastLines (bookAfter b l) (k + length l) (r + ledgerRefused b l)
+unfolding restOf ledgerLines bookAfter ledgerRefused
 rest-is k r b [] = rw (add-zero, add-zero) refl
 rest-is k r b (x ∷ l) =
-    let c = answerTo b x .book in
+    let c = ledgerAnswerTo b x .book in
     let n : k + 1 + length l ≡ k + suc (length l) = omega arith in
-    let m : r + refusal b x + refusedIn c l ≡ r + (refusal b x + refusedIn c l) = omega arith in
+    let m : r + refusal b x + ledgerRefused c l ≡ r + (refusal b x + ledgerRefused c l) = omega arith in
     let s : k + 1 ≡ suc k = omega arith in
     ap (λ (z : List ℕ). lineFor (k + 1) b x ++ z) (rest-is (k + 1) (r + refusal b x) c l)
-    ∙ rw (n, m, s) (sym (append-assoc (lineFor (suc k) b x) (answerLines (suc (suc k)) c l) _))
+    ∙ rw (n, m, s) (sym (append-assoc (lineFor (suc k) b x) (ledgerLines (suc (suc k)) c l) _))
 
-report-rest : (text : List ℕ) → reportOf text ≡ restOf 0 0 (newBook 0) (readScript text)
-unfolding reportOf reportFor
+report-rest : (text : List ℕ) → ledgerReportOf text ≡ restOf 0 0 (newBook 0) (readScript text)
+unfolding ledgerReportOf ledgerReportFor
 report-rest text = sym (rest-is 0 0 (newBook 0) (readScript text) ∙ rw (zero-add, zero-add) refl)
 
 -- ---- a step played
@@ -120,7 +118,7 @@ pub record Playing (text room₀ : List ℕ) (ledger : Ledger) (words room : Lis
   pub fewer : refused ≤ lines
   pub kept : Kept 16 (bookOf ledger words)
   pub count : ledger .cursor .held ≡ length (bookOf ledger words .held)
-  pub left : Left room₀ 0 (reportOf text) room next (restOf lines refused (bookOf ledger words) (readScript (drop at text)))
+  pub left : Left room₀ 0 (ledgerReportOf text) room next (restOf lines refused (bookOf ledger words) (readScript (drop at text)))
 
 module _ (text room₀ : List ℕ) where
   pub playing-none : (ledger : Ledger) (words : List ℕ) → Begins 0 ledger → Playing text room₀ ledger words room₀ 0 0 0 0
@@ -133,7 +131,7 @@ module _ (text room₀ : List ℕ) where
         fewer = omega arith;
         kept = rw b (kept-new 16 0);
         count = p .count-is ∙ sym (ap (λ (z : Book). length (z .held)) b);
-        left = rw (b, ← report-rest text) (left-start room₀ 0 (reportOf text));
+        left = rw (b, ← report-rest text) (left-start room₀ 0 (ledgerReportOf text));
       }
 
   module _ (ledger : Ledger) (words room : List ℕ) (at next lines refused : ℕ) (p : Playing text room₀ ledger words room at next lines refused) where
@@ -142,23 +140,23 @@ module _ (text room₀ : List ℕ) where
       abbrev now : Book
       now = bookOf ledger words
 
-      here : Left room₀ 0 (reportOf text) room next
-          (lineFor (lines + 1) now x ++ restOf (lines + 1) (refused + refusal now x) (answerTo now x .book) (readScript (drop (end + 1) text)))
+      here : Left room₀ 0 (ledgerReportOf text) room next
+          (lineFor (lines + 1) now x ++ restOf (lines + 1) (refused + refusal now x) (ledgerAnswerTo now x .book) (readScript (drop (end + 1) text)))
       unfolding restOf
       here = rw (script-more text at h e, ← ex) at (p .left)
 
-      here-room : length (reportOf text) ≤ length room₀ → next + length (lineFor (lines + 1) now x) ≤ length room
+      here-room : length (ledgerReportOf text) ≤ length room₀ → next + length (lineFor (lines + 1) now x) ≤ length room
       here-room r = left-room (lineFor (lines + 1) now x) _ here (omega arith)
 
       -- played on to a ledger that stands for the book after the line
-      here-more : (ledger′ : Ledger) (words′ : List ℕ) → bookOf ledger′ words′ ≡ answerTo now x .book
+      here-more : (ledger′ : Ledger) (words′ : List ℕ) → bookOf ledger′ words′ ≡ ledgerAnswerTo now x .book
           → ledger′ .cursor .held ≡ length (bookOf ledger′ words′ .held) → (n : ℕ) → n ≡ refusal now x → (room′ : List ℕ) (next′ : ℕ)
           → Stored room next (lineFor (lines + 1) now x) next′ room′ → Playing text room₀ ledger′ words′ room′ (end + 1) next′ (lines + 1) (refused + n)
       here-more ledger′ words′ b c n en room′ next′ s =
           record {
             within = omega (arith, end-within text at h e);
             few = omega (arith, p .few, end-above text at h e);
-            fewer = omega (arith, p .fewer, one-at-most (answerTo now x .number) n en);
+            fewer = omega (arith, p .fewer, refusal-one (ledgerAnswerTo now x .number) n en);
             kept = rw b (kept-line now (p .kept) x);
             count = c;
             left = rw (b, en) (left-step _ here s);
@@ -166,63 +164,63 @@ module _ (text room₀ : List ℕ) where
 
       -- a malformed line
       module _ (m : x ≡ Malformed) where
-        malformed-line : lineFor (lines + 1) now x ≡ answerLine (lines + 1) 20 false []
-        unfolding answerTo answer handsOut
+        malformed-line : lineFor (lines + 1) now x ≡ ledgerLine (lines + 1) 20 false []
+        unfolding ledgerAnswerTo answer handsOut
         malformed-line = rw m refl
 
-        same-book : answerTo now x .book ≡ now
-        unfolding answerTo answer
+        same-book : ledgerAnswerTo now x .book ≡ now
+        unfolding ledgerAnswerTo answer
         same-book = rw m refl
 
         counted : refusal now x ≡ 1
-        unfolding answerTo answer
+        unfolding ledgerAnswerTo answer
         counted = rw m refl
 
-        pub malformed-room : length (reportOf text) ≤ length room₀ → next + length (answerLine (lines + 1) 20 false []) ≤ length room
+        pub malformed-room : length (ledgerReportOf text) ≤ length room₀ → next + length (ledgerLine (lines + 1) 20 false []) ≤ length room
         malformed-room r = rw malformed-line at (here-room r)
 
-        pub malformed-more : (room′ : List ℕ) (next′ : ℕ) → Stored room next (answerLine (lines + 1) 20 false []) next′ room′
+        pub malformed-more : (room′ : List ℕ) (next′ : ℕ) → Stored room next (ledgerLine (lines + 1) 20 false []) next′ room′
             → Playing text room₀ ledger words room′ (end + 1) next′ (lines + 1) (refused + 1)
         malformed-more room′ next′ s = here-more ledger words (sym same-book) (p .count) 1 (sym counted) room′ next′ (rw malformed-line s)
 
       -- a step
       module _ (s : LedgerStep) (m : x ≡ Does s) (tags : List ℕ) (r : Played) (words′ tags′ : List ℕ) (q : Plays ledger words tags s r words′ tags′) where
-        does-line : lineFor (lines + 1) now x ≡ answerLine (lines + 1) (r .number) (r .handed) (take (r .count) tags′)
-        unfolding answerTo handsOut
+        does-line : lineFor (lines + 1) now x ≡ ledgerLine (lines + 1) (r .number) (r .handed) (take (r .count) tags′)
+        unfolding ledgerAnswerTo handsOut
         does-line = rw (m, q .handed-is, front-is ledger words tags s r words′ tags′ q, q .tells .number-is) refl
 
-        does-answer : answerTo now x ≡ step 16 now (stepIs s)
-        unfolding answerTo
+        does-answer : ledgerAnswerTo now x ≡ step 16 now (stepIs s)
+        unfolding ledgerAnswerTo
         does-answer = rw m refl
 
-        pub does-room : length (reportOf text) ≤ length room₀ → next + length (answerLine (lines + 1) (r .number) (r .handed) (take (r .count) tags′)) ≤ length room
+        pub does-room : length (ledgerReportOf text) ≤ length room₀ → next + length (ledgerLine (lines + 1) (r .number) (r .handed) (take (r .count) tags′)) ≤ length room
         does-room z = rw does-line at (here-room z)
 
-        pub does-more : (n : ℕ) → n ≡ cond (eqb (r .number) 0) 0 1 → (room′ : List ℕ) (next′ : ℕ)
-            → Stored room next (answerLine (lines + 1) (r .number) (r .handed) (take (r .count) tags′)) next′ room′
+        pub does-more : (n : ℕ) → n ≡ refusalOf (r .number) → (room′ : List ℕ) (next′ : ℕ)
+            → Stored room next (ledgerLine (lines + 1) (r .number) (r .handed) (take (r .count) tags′)) next′ room′
             → Playing text room₀ (r .ledger) words′ room′ (end + 1) next′ (lines + 1) (refused + n)
         does-more n en room′ next′ z =
             here-more (r .ledger) words′
             (q .tells .book-is ∙ sym (ap (λ (a : Answer). a .book) does-answer))
             (count-held ledger words (stepIs s) _ words′ (q .tells) (p .count))
-            n (en ∙ ap (λ (k : ℕ). cond (eqb k 0) 0 1) (q .tells .number-is ∙ sym (ap (λ (a : Answer). a .number) does-answer)))
+            n (en ∙ ap refusalOf (q .tells .number-is ∙ sym (ap (λ (a : Answer). a .number) does-answer)))
             room′ next′ (rw does-line z)
 
     -- the end
     module _ (h : length text ≤ at) where
-      last-is : restOf lines refused (bookOf ledger words) (readScript (drop at text)) ≡ ledgerLines ledger lines refused ++ []
-      unfolding restOf lastLines ledgerLines bookOf
+      last-is : restOf lines refused (bookOf ledger words) (readScript (drop at text)) ≡ seenLines ledger lines refused ++ []
+      unfolding restOf lastLines seenLines bookOf
       last-is =
           rw (script-none text at h, append-nil)
           (ap (λ (n : ℕ). senderLines 16 (rowsOf (ledger .seats)) ++ (cursorLine (ledger .cursor .next .0) n ++ totals lines refused)) (sym (p .count)))
 
-      last : Left room₀ 0 (reportOf text) room next (ledgerLines ledger lines refused ++ [])
+      last : Left room₀ 0 (ledgerReportOf text) room next (seenLines ledger lines refused ++ [])
       last = rw last-is at (p .left)
 
-      pub end-room : length (reportOf text) ≤ length room₀ → next + length (ledgerLines ledger lines refused) ≤ length room
-      end-room r = left-room (ledgerLines ledger lines refused) [] last (omega arith)
+      pub end-room : length (ledgerReportOf text) ≤ length room₀ → next + length (seenLines ledger lines refused) ≤ length room
+      end-room r = left-room (seenLines ledger lines refused) [] last (omega arith)
 
-      pub playing-all : {room′ : List ℕ} {next′ : ℕ} → Stored room next (ledgerLines ledger lines refused) next′ room′ → Stored room₀ 0 (reportOf text) next′ room′
+      pub playing-all : {room′ : List ℕ} {next′ : ℕ} → Stored room next (seenLines ledger lines refused) next′ room′ → Stored room₀ 0 (ledgerReportOf text) next′ room′
       playing-all s = left-end (left-step [] last s)
 
     pub held-few : ledger .cursor .held ≤ 1024

@@ -1,5 +1,5 @@
--- The senders' lines: how long they can be, and how they are stored. Assumes nothing.
-use Prim.Native.Nat.{ℕ, zero, suc, _+_, _-_, _*_, _≤_, _<_}
+-- How the senders' lines are stored. Assumes nothing.
+use Prim.Native.Nat.{ℕ, zero, suc, _+_, _-_, _≤_, _<_}
 use native.Mathlib.Omega.{arith}
 use native.Mathlib.Numerals.{add-one}
 use mathlib.Core.List.{List, [], _∷_, _++_}
@@ -7,32 +7,14 @@ use mathlib.Core.Path.{_≡_, refl}
 use lib.ListN.{length, length-append}
 use Rattle.spelling.specs.Numbers.{ascii, digits}
 use Rattle.spelling.specs.Stored.{Stored}
-use Rattle.spelling.proofs.Decimals.{digits-length}
 use Rattle.spelling.proofs.Stores.{room-front, room-after, stored-nil, stored-then, stored-length}
 use Rattle.spelling.proofs.Puts.{Put, put-then, put-last}
 use Rattle.kinds.specs.declared.SlotNo.{SlotNo}
 use Rattle.senders.specs.declared.Row as code
 use Rattle.senders.specs.declared.Row.the-variants.{Unknown, Joined, Ended}
-use Rattle.book.specs.Book.{Row, unknown, joined, ended}
+use Rattle.book.specs.Book.{Row}
 use Rattle.senders.specs.Rows.{rowIs}
-use Rattle.ledger_report.specs.Report.{slotsText, senderLine, senderLines}
-
--- ---- no line is longer than 66 bytes
-
-slots-short : (s f o : ℕ) → length (slotsText s f o) ≤ 50
-unfolding slotsText
-slots-short s f o = simp length-append (omega (arith, digits-length s, digits-length f, digits-length o))
-
-sender-short : (s : ℕ) (r : Row) → length (senderLine s r) ≤ 66
-unfolding senderLine
-sender-short s unknown = omega arith
-sender-short s (joined f o) = simp length-append (omega (arith, slots-short s f o))
-sender-short s (ended f o e) = simp length-append (omega (arith, slots-short s f o, digits-length e))
-
-pub senders-short : (n : ℕ) (rows : ℕ → Row) → length (senderLines n rows) ≤ 66 * n
-unfolding senderLines
-senders-short zero rows = omega arith
-senders-short (suc n) rows = omega (arith, length-append (senderLines n rows) (senderLine (suc n) (rows (suc n))), senders-short n rows, sender-short (suc n) (rows (suc n)))
+use Rattle.reports.specs.LedgerReport.{slotsText, senderLine, senderLines}
 
 -- ---- a line stored
 

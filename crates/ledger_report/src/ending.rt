@@ -2,12 +2,14 @@
 ghost use Prim.Native.Nat.{_+_, _≤_};
 ghost use lib.ListN.{length};
 ghost use Rattle.spelling.specs.Stored.{Stored};
-ghost use Rattle.ledger_report.specs.Report.{cursorLine, totals};
-ghost use Rattle.ledger_report.specs.Parts.{ledgerLines};
-use crate::senders::store_senders;
+ghost use Rattle.reports.specs.LedgerReport.{cursorLine};
+ghost use Rattle.spelling.specs.Answers.{totals};
+ghost use Rattle.ledger_report.specs.Parts.{seenLines};
+use crate::sender_lines::store_senders;
 use ledger::Ledger;
 use room::bytes::put_bytes;
 use room::decimal::put_field;
+use room::totals::put_totals;
 
 pub(crate) fn store_end(
     room: &mut [u8],
@@ -16,13 +18,13 @@ pub(crate) fn store_end(
     lines: u32,
     refused: u32,
 ) -> usize
-    requires { ⌜ (ledger .cursor .held ≤ 1024) × (at + length (ledgerLines ledger lines refused) ≤ length (now room)) ⌝ }
-    ensures { λ r. ⌜ Stored (now (room .entry)) at (ledgerLines ledger lines refused) r (now (room .exit)) ⌝ }
+    requires { ⌜ (ledger .cursor .held ≤ 1024) × (at + length (seenLines ledger lines refused) ≤ length (now room)) ⌝ }
+    ensures { λ r. ⌜ Stored (now (room .entry)) at (seenLines ledger lines refused) r (now (room .exit)) ⌝ }
 {
     let a = store_senders(room, at, ledger);
     let held = ledger.cursor.held as u32;
     let b = store_cursor(room, a, ledger.cursor.next.0, held);
-    store_totals(room, b, lines, refused)
+    put_totals(room, b, lines, refused)
 }
 
 // `next=1 held=0`: the next slot to hand out, and the number of sweeps held.
@@ -32,15 +34,5 @@ fn store_cursor(room: &mut [u8], at: usize, next: u32, held: u32) -> usize
 {
     let a = put_field(room, at, b"next=", next);
     let b = put_field(room, a, b" held=", held);
-    put_bytes(room, b, b"\n")
-}
-
-// `lines=10 refused=0`: the number of lines, and of lines not answered 0.
-fn store_totals(room: &mut [u8], at: usize, lines: u32, refused: u32) -> usize
-    requires { ⌜ at + length (totals lines refused) ≤ length (now room) ⌝ }
-    ensures { λ r. ⌜ Stored (now (room .entry)) at (totals lines refused) r (now (room .exit)) ⌝ }
-{
-    let a = put_field(room, at, b"lines=", lines);
-    let b = put_field(room, a, b" refused=", refused);
     put_bytes(room, b, b"\n")
 }

@@ -1,24 +1,21 @@
 // A script played on a new ledger, line by line.
-ghost use mathlib.Core.Path.{_≡_};
-ghost use mathlib.Core.Bool.{cond};
 ghost use Prim.Native.Nat.{_≤_};
-ghost use lib.Dec.{eqb};
 ghost use lib.ListN.{length};
 ghost use Rattle.spelling.specs.Stored.{Stored};
-ghost use Rattle.ledger_report.specs.Report.{reportOf};
-use crate::answers::store_answer;
+ghost use Rattle.reports.specs.LedgerReport.{ledgerReportOf};
+use crate::answers::store_ledger_line;
 use crate::ending::store_end;
-use kinds::AnswerNo;
 use kinds::SlotNo;
 use ledger_text::playing::play;
 use ledger_text::reading::read_line;
+use room::totals::refusal;
 use spelling::LedgerSaid;
 use text::bytes::line_end;
 
 // Plays the script and stores its report at the room's front. Answers the place behind it.
 pub(crate) fn play_text(text: &[u8], room: &mut [u8]) -> usize
-    requires { ⌜ (length (now text) ≤ 65536) × (length (reportOf (now text)) ≤ length (now room)) ⌝ }
-    ensures { λ r. ⌜ Stored (now (room .entry)) 0 (reportOf (now (text .entry))) r (now (room .exit)) ⌝ }
+    requires { ⌜ (length (now text) ≤ 65536) × (length (ledgerReportOf (now text)) ≤ length (now room)) ⌝ }
+    ensures { λ r. ⌜ Stored (now (room .entry)) 0 (ledgerReportOf (now (text .entry))) r (now (room .exit)) ⌝ }
 {
     let mut words = [0u64; 1024];
     let mut tags = [0u32; 1024];
@@ -33,14 +30,14 @@ pub(crate) fn play_text(text: &[u8], room: &mut [u8]) -> usize
         at = stop + 1;
         lines += 1;
         let LedgerSaid::Does(step) = line else {
-            next = store_answer(room, next, lines, 20, false, &tags[..0]);
+            next = store_ledger_line(room, next, lines, 20, false, &tags[..0]);
             refused += 1;
             continue;
         };
         let played = play(ledger, &mut words, &mut tags, step);
         ledger = played.ledger;
         let count = played.count;
-        next = store_answer(
+        next = store_ledger_line(
             room,
             next,
             lines,
@@ -51,13 +48,4 @@ pub(crate) fn play_text(text: &[u8], room: &mut [u8]) -> usize
         refused += refusal(played.number);
     }
     store_end(room, next, ledger, lines, refused)
-}
-
-fn refusal(number: AnswerNo) -> u32
-    ensures { λ r. ⌜ r ≡ cond (eqb number 0) 0 1 ⌝ }
-{
-    if number == 0 {
-        return 0;
-    }
-    1
 }

@@ -2,11 +2,12 @@
 // prints the refusal alone. Where the input cannot be read to its end, or the report not be written whole, it says so on standard error; a Rattle
 // program has no exit status, so the command ./funkenrille gives one.
 use ledger_report::ROOM;
-use ledger_report::Reported;
 use ledger_report::report;
 use libc::STDERR_FILENO;
 use libc::STDIN_FILENO;
 use libc::STDOUT_FILENO;
+use reports::Reported;
+use room::totals::put_refusal;
 
 // The input has room for one byte more than a text may have, to see that it is too long.
 fn main() {
@@ -21,7 +22,10 @@ fn play(text: &[u8]) {
     let mut room = [0u8; ROOM];
     match report(text, &mut room) {
         Reported::Length(length) => print(&room[..length]),
-        Reported::Refused(number) => print_refusal(number),
+        Reported::Refused(number) => {
+            let end = put_refusal(&mut room, 0, number);
+            print(&room[..end]);
+        }
     }
 }
 
@@ -40,20 +44,7 @@ fn ended() -> bool {
 }
 
 fn print(report: &[u8]) {
-    written(io::write_all(STDOUT_FILENO, report));
-}
-
-fn print_refusal(number: u8) {
-    let named = io::write_all(STDOUT_FILENO, b"refused=");
-    written(
-        named
-            && io::print_decimal(STDOUT_FILENO, number as u64)
-            && io::write_all(STDOUT_FILENO, b"\n"),
-    );
-}
-
-fn written(whole: bool) {
-    if !whole {
+    if !io::write_all(STDOUT_FILENO, report) {
         io::write_all(
             STDERR_FILENO,
             b"ledger_run: standard output cannot be written\n",

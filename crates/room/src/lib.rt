@@ -3,3 +3,4 @@
 pub mod answer; // answer.rt: a line's number and its answer
 pub mod bytes; // bytes.rt: fixed byte strings
 pub mod decimal; // decimal.rt: numbers
+pub mod totals; // totals.rt: a report's last line

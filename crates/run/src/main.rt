@@ -4,7 +4,8 @@
 use libc::STDERR_FILENO;
 use libc::STDIN_FILENO;
 use libc::STDOUT_FILENO;
-use run_report::Reported;
+use reports::Reported;
+use room::totals::put_refusal;
 use run_report::report;
 
 // The input has room for one byte more than a text may have, to see that it is too long, and the room for the longest report.
@@ -24,7 +25,10 @@ fn run(input: &mut [u8], room: &mut [u8]) {
 fn play(text: &[u8], room: &mut [u8]) {
     match report(text, room) {
         Reported::Length(length) => print(&room[..length]),
-        Reported::Refused(number) => print_refusal(number),
+        Reported::Refused(number) => {
+            let end = put_refusal(room, 0, number);
+            print(&room[..end]);
+        }
     }
 }
 
@@ -40,20 +44,7 @@ fn ended() -> bool {
 }
 
 fn print(report: &[u8]) {
-    written(io::write_all(STDOUT_FILENO, report));
-}
-
-fn print_refusal(number: u8) {
-    let named = io::write_all(STDOUT_FILENO, b"refused=");
-    written(
-        named
-            && io::print_decimal(STDOUT_FILENO, number as u64)
-            && io::write_all(STDOUT_FILENO, b"\n"),
-    );
-}
-
-fn written(whole: bool) {
-    if !whole {
+    if !io::write_all(STDOUT_FILENO, report) {
         io::write_all(STDERR_FILENO, b"run: standard output cannot be written\n");
     }
 }

@@ -4,39 +4,30 @@ use native.Mathlib.Omega.{arith}
 use native.Mathlib.Nat.{add-zero}
 use native.Mathlib.Numerals.{add-one}
 use mathlib.Core.Bool.{true}
-use mathlib.Core.List.{List, [], _∷_, _++_, append-assoc}
+use mathlib.Core.List.{List, [], _∷_, _++_}
 use mathlib.Core.Path.{_≡_, refl, sym, ap, _∙_}
 use lib.Dec.{leb}
 use lib.ListN.{length, getD, drop, length-append, drop-of-length-le}
 use borrow.Author.Tests.{le-leb}
-use Rattle.spelling.specs.Numbers.{ascii, digits}
+use Rattle.spelling.specs.Numbers.{digits}
 use Rattle.spelling.specs.Stored.{Stored}
 use Rattle.spelling.proofs.Places.{cut}
-use Rattle.spelling.proofs.Decimals.{digits-length}
 use Rattle.spelling.proofs.Stores.{Left, left-start, left-step, left-end, left-room}
 use Rattle.spelling.proofs.Puts.{Put, put-then, put-last}
-use Rattle.run_report.specs.Report.{answerLine, answerLines}
+use Rattle.spelling.specs.Answers.{answerText}
+use Rattle.reports.specs.RunReport.{answerLine, answerLines}
+use Rattle.reports.proofs.RunLines.{line-length, line-short, lines-short}
 
 -- ---- one line
-
--- 14 bytes beside its two numbers
-pub line-length : (k a : ℕ) → length (answerLine k a) ≡ 14 + length (digits k) + length (digits a)
-unfolding answerLine
-line-length k a = simp length-append (omega arith)
-
-pub line-short : (k a n : ℕ) → n ≡ length (answerLine k a) → n ≤ 34
-line-short k a n e = omega (arith, line-length k a, digits-length k, digits-length a)
 
 -- measured by its two numbers
 pub line-measured : (k a m n : ℕ) → m ≡ length (digits k) → n ≡ length (digits a) → 14 + m + n ≡ length (answerLine k a)
 line-measured k a m n p q = omega (arith, line-length k a)
 
-pub line-stored : (k a : ℕ) {l l₁ l₂ : List ℕ} {at n₁ n₂ : ℕ} → Put l at (ascii "line=" ++ (digits k ++ (ascii " answer=" ++ digits a))) n₁ l₁
-    → Put l₁ n₁ (10 ∷ []) n₂ l₂ → at + length (answerLine k a) ≤ length l → Stored l at (answerLine k a) n₂ l₂
+pub line-stored : (k a : ℕ) {l l₁ l₂ : List ℕ} {at n₁ n₂ : ℕ} → Put l at (answerText k a) n₁ l₁ → Put l₁ n₁ (10 ∷ []) n₂ l₂
+    → at + length (answerLine k a) ≤ length l → Stored l at (answerLine k a) n₂ l₂
 unfolding answerLine
-line-stored k a p q h =
-    let e = append-assoc (digits k) (ascii " answer=" ++ digits a) (10 ∷ []) in
-    rw (← e) (put-then (ascii "line=" ++ (digits k ++ (ascii " answer=" ++ digits a))) (10 ∷ []) p (put-last _ q) (rw (← e) at h))
+line-stored k a p q h = put-then (answerText k a) (10 ∷ []) p (put-last _ q) h
 
 -- ---- the lines from a place on
 
@@ -48,11 +39,6 @@ module _ (l : List ℕ) (k i : ℕ) where
   lines-none : length l ≤ i → answerLines k (drop i l) ≡ []
   unfolding answerLines
   lines-none h = rw (drop-of-length-le l h) refl
-
-pub lines-short : (l : List ℕ) (k : ℕ) → length (answerLines k l) ≤ 34 * length l
-unfolding answerLines
-lines-short [] k = omega arith
-lines-short (a ∷ l) k = omega (arith, length-append (answerLine k a) (answerLines (suc k) l), line-short k a (length (answerLine k a)) refl, lines-short l (suc k))
 
 -- room for the lines and n bytes behind them
 module _ (l : List ℕ) (n m : ℕ) where

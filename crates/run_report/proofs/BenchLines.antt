@@ -8,7 +8,7 @@ use mathlib.Core.Path.{_≡_, refl, sym, _∙_}
 use lib.Dec.{eqb}
 use lib.ListN.{length, length-append}
 use borrow.Author.Tests.{ne-eqb, eq-eqb, le-leb}
-use Rattle.published.specs.Rounds.{Message, Round, Out, State, fresh, running, decided, abstained, left, failed, Decision, none, chosen}
+use Rattle.published.specs.Rounds.{Message, Round, Out, failed}
 use Rattle.common.specs.Benches.{isBench}
 use Rattle.common.proofs.Tests.{cond-ind}
 use Rattle.tables.specs.Runs.{roundsOf, lineOf, stateOf, benchOf, runBy, runOf}
@@ -18,10 +18,10 @@ use Rattle.reads.specs.Decisions.{decisionIs}
 use Rattle.reads.specs.Reads.{stateWord, sentWord, decisionAt}
 use Rattle.spelling.specs.Numbers.{ascii, digits}
 use Rattle.spelling.specs.Stored.{Stored}
-use Rattle.spelling.proofs.Decimals.{digits-length}
 use Rattle.spelling.proofs.Stores.{stored-nil, stored-then, stored-length}
 use Rattle.spelling.proofs.Puts.{Put, put-then, put-last}
-use Rattle.run_report.specs.Report.{stateText, lastRound, valueText, benchLine, benchLines}
+use Rattle.reports.specs.RunReport.{stateText, lastRound, valueText, benchLine, benchLines}
+use Rattle.reports.proofs.RunLines.{spelled, spelled-short}
 use Rattle.run_report.specs.Parts.{rowLine, rowLines}
 
 -- ---- the row's words are what the report says of the bench
@@ -61,28 +61,6 @@ row-lines t l zero h = refl
 row-lines t l (suc n) h = rw (row-lines t l n (omega arith), row-line t l n (omega arith)) refl
 
 -- ---- no line is longer than 67 bytes
-
-state-short : (k : State) → length (stateText k) ≤ 9
-unfolding stateText
-state-short fresh = omega arith
-state-short running = omega arith
-state-short decided = omega arith
-state-short abstained = omega arith
-state-short left = omega arith
-state-short failed = omega arith
-
-value-short : (d : Decision) → length (valueText d) ≤ 10
-unfolding valueText
-value-short none = omega arith
-value-short (chosen v) = omega (arith, digits-length v)
-
--- a bench's line that is not fresh
-abbrev pub spelled : ℕ → State → ℕ → Decision → List ℕ
-spelled b k r d =
-    (ascii "bench=" ++ digits b) ++ (ascii " state=" ++ (stateText k ++ ((ascii " round=" ++ digits r) ++ (ascii " value=" ++ (valueText d ++ (10 ∷ []))))))
-
-pub spelled-short : (b : ℕ) (k : State) (r : ℕ) (d : Decision) → length (spelled b k r d) ≤ 67
-spelled-short b k r d = simp length-append (omega (arith, digits-length b, state-short k, digits-length r, value-short d))
 
 row-short : (t : List (List ℕ)) (b : ℕ) → length (rowLine t b) ≤ 67
 unfolding rowLine

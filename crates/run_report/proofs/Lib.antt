@@ -3,8 +3,3 @@ pub mod BenchLines
 pub mod TotalsLine
 pub mod Played
 pub mod Reports
-pub mod Lengths
-pub mod Settled
-pub mod Decided
-pub mod WholeCase
-pub mod Theorems

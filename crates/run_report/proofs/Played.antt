@@ -8,7 +8,7 @@ use lib.Dec.{ltb}
 use lib.ListN.{length, set, take, drop, length-set, drop-of-length-le}
 use lib.Seq.{take-suc-set}
 use borrow.Author.Tests.{ltb-true, ltb-false}
-use Rattle.published.specs.Rounds.{Run, newRun, refuse}
+use Rattle.published.specs.Rounds.{Run, newRun, refuse, upTo, runFrom}
 use Rattle.common.proofs.Tests.{clash, split}
 use Rattle.kinds.specs.declared.Step.{Step}
 use Rattle.kinds.specs.Stand.{stepOf}
@@ -24,7 +24,7 @@ use Rattle.spelling.specs.Lines.{linesOf}
 use Rattle.spelling.specs.Reading.{saidOf, readText, readLineOf}
 use Rattle.spelling.specs.Fields.{lineAt, nextAt}
 use Rattle.spelling.proofs.TextTrip.{lines-at, next-above}
-use Rattle.run_report.specs.Report.{answerTo, answersFrom, runAfter}
+use Rattle.reports.specs.RunReport.{answerTo, answersFrom, stepsOf, runAfter}
 use Rattle.run_report.specs.Parts.{Played}
 
 -- ---- one line
@@ -77,9 +77,11 @@ module _ (s : Run) (x : Said) (m : List Said) where
   unfolding answersFrom
   answers-more k r s′ e n u = ap (answersFrom s) e ∙ ap (λ (a : ℕ). a ∷ answersFrom (answerTo s x .run) m) n ∙ ap (λ (z : Run). r ∷ answersFrom z m) u
 
-  run-more : (k : List Said) (s′ : Run) → k ≡ x ∷ m → answerTo s x .run ≡ s′ → runAfter s k ≡ runAfter s′ m
-  unfolding runAfter
-  run-more k s′ e u = ap (runAfter s) e ∙ ap (λ (z : Run). runAfter z m) u
+run-more : (s : Run) (x : Said) (m k : List Said) (s′ : Run) → k ≡ x ∷ m → answerTo s x .run ≡ s′
+    → runFrom 16 (upTo 96) s (stepsOf k) ≡ runFrom 16 (upTo 96) s′ (stepsOf m)
+unfolding stepsOf runFrom answerTo refuse
+run-more s (Does a) m k s′ e u = rw e (ap (λ (z : Run). runFrom 16 (upTo 96) z (stepsOf m)) u)
+run-more s Malformed m k s′ e u = rw e (ap (λ (z : Run). runFrom 16 (upTo 96) z (stepsOf m)) u)
 
 -- ---- the text, line by line
 
@@ -92,7 +94,7 @@ pub record Playing (text answers₀ : List ℕ) (t l : List (List ℕ)) (answers
   pub long : length answers ≡ length answers₀
   pub room : length text ≤ length answers₀
   pub answered : answersFrom newRun (readText 16 text) ≡ take count answers ++ answersFrom (runOf 16 96 t l) (readText 16 (drop at text))
-  pub run : runAfter newRun (readText 16 text) ≡ runAfter (runOf 16 96 t l) (readText 16 (drop at text))
+  pub run : runAfter text ≡ runFrom 16 (upTo 96) (runOf 16 96 t l) (stepsOf (readText 16 (drop at text)))
 
 module _ (text answers₀ : List ℕ) where
   pub playing-none : (t l : List (List ℕ)) → t ≡ emptyTables 16 96 .benches → l ≡ emptyTables 16 96 .logs
@@ -136,7 +138,7 @@ module _ (text answers₀ : List ℕ) where
         }
 
     pub playing-all : readLineOf 16 text at ≡ End → Played text t l count answers
-    unfolding answersFrom runAfter
+    unfolding answersFrom stepsOf runFrom
     playing-all e =
         let d = read-line-ends text at e in
         record {

@@ -4,7 +4,7 @@ ghost use Prim.Native.Nat.{_+_, _≤_};
 ghost use lib.Dec.{leb};
 ghost use lib.ListN.{length};
 ghost use Rattle.spelling.specs.Stored.{Stored};
-ghost use Rattle.run_report.specs.Report.{answerLine, answerLines};
+ghost use Rattle.reports.specs.RunReport.{answerLine, answerLines};
 use kinds::AnswerNo;
 use room::answer::put_answer;
 use room::bytes::put_bytes;
@@ -51,13 +51,13 @@ pub(crate) fn store_answers(room: &mut [u8], answers: &[u8]) -> usize
     let mut at = 0;
     let mut i = 0;
     while i < answers.len() {
-        at = store_answer(room, at, i as u32 + 1, answers[i]);
+        at = store_answer_line(room, at, i as u32 + 1, answers[i]);
         i += 1;
     }
     at
 }
 
-fn store_answer(room: &mut [u8], at: usize, line: u32, answer: AnswerNo) -> usize
+fn store_answer_line(room: &mut [u8], at: usize, line: u32, answer: AnswerNo) -> usize
     requires { ⌜ at + length (answerLine line answer) ≤ length (now room) ⌝ }
     ensures { λ r. ⌜ Stored (now (room .entry)) at (answerLine line answer) r (now (room .exit)) ⌝ }
 {

@@ -4,7 +4,7 @@ ghost use lib.ListN.{length};
 ghost use Rattle.spelling.specs.Stored.{Stored, fitting};
 ghost use Rattle.tables.specs.Runs.{stateOf};
 ghost use Rattle.reads.specs.Decisions.{decisionIs};
-ghost use Rattle.run_report.specs.Report.{stateText, valueText};
+ghost use Rattle.reports.specs.RunReport.{stateText, valueText};
 ghost use Rattle.run_report.specs.Parts.{rowLine, rowLines};
 use kinds::BenchNo;
 use reads::Decision;
@@ -42,14 +42,14 @@ fn store_bench(room: &mut [u8], at: usize, benches: &Benches, bench: BenchNo) ->
     let decision = decision_of(benches, bench);
     let a = put_field(room, at, b"bench=", bench.0);
     let b = put_bytes(room, a, b" state=");
-    let c = put_state(room, b, state);
+    let c = put_state_name(room, b, state);
     let d = put_field(room, c, b" round=", sent);
     let e = put_bytes(room, d, b" value=");
     let f = put_value(room, e, decision);
     put_bytes(room, f, b"\n")
 }
 
-fn put_state(room: &mut [u8], at: usize, state: u32) -> usize
+fn put_state_name(room: &mut [u8], at: usize, state: u32) -> usize
     ensures { λ r. ⌜ Stored (now (room .entry)) at (fitting (now (room .entry)) at (stateText (stateOf state))) r (now (room .exit)) ⌝ }
 {
     match state {

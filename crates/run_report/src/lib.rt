@@ -1,32 +1,28 @@
 // A text played and its report, for a caller that lends the room. The text is read once and the report is written once: the answers
 // are kept, one byte a line, so that the room is measured before its first byte is written.
-// The contracts cite specs/Report.antt, the report that document 01 wants, and specs/Reported.antt.
+// The contracts cite crate `reports`: `runReportOf`, the report that document 01 wants, and `Reports`.
 ghost use mathlib.Core.Path.{_≡_};
-ghost use Rattle.run_report.specs.Reported.{Reports, lengthFor, roomAfter};
+ghost use Rattle.reports.specs.Reported.{Reports, lengthFor, roomAfter};
+ghost use Rattle.reports.specs.RunReport.{runReportOf};
 
 mod answers; // answers.rt: the answers' lines measured and stored
 mod benches; // benches.rt: the benches' lines
 mod playing; // playing.rt: a text played
-mod totals; // totals.rt: the last line
+mod totals; // totals.rt: the lines not answered 0 counted
 
 use answers::room_for;
 use answers::store_answers;
 use benches::store_benches;
-use kinds::AnswerNo;
 use playing::play;
+use reports::Reported;
 use room::bytes::put_bytes;
-use totals::store_totals;
-
-// The report's length in bytes, or the number of a refusal.
-pub enum Reported {
-    Length(usize),
-    Refused(AnswerNo),
-}
+use room::totals::put_totals;
+use totals::refused_in;
 
 // Plays the text and writes its report to the front of the room. A refusal leaves the room as it was, and so does the report all
 // that stands behind it.
 pub fn report(text: &[u8], room: &mut [u8]) -> Reported
-    ensures { λ r. ⌜ Reports (now (text .entry)) (now (room .entry)) r (now (room .exit)) ⌝ }
+    ensures { λ r. ⌜ Reports (now (text .entry)) (runReportOf (now (text .entry))) (now (room .entry)) r (now (room .exit)) ⌝ }
 {
     if 65536 < text.len() {
         return Reported::Refused(23);
@@ -39,7 +35,7 @@ pub fn report(text: &[u8], room: &mut [u8]) -> Reported
     // what stands behind the answers: 16 lines of at most 67 bytes, and one of at most 36
     let mut rest = [0u8; 1108];
     let last = store_benches(&mut rest, &benches);
-    let n = store_totals(&mut rest, last, answers);
+    let n = put_totals(&mut rest, last, lines as u32, refused_in(answers));
     if !room_for(room, answers, n) {
         return Reported::Refused(22);
     }
@@ -50,8 +46,8 @@ pub fn report(text: &[u8], room: &mut [u8]) -> Reported
 // The same for C: the report's length, or 0 of a refusal. No report has the length 0.
 #[no_mangle]
 pub extern "C" fn funkenrille_report(text: &[u8], room: &mut [u8]) -> usize
-    ensures { λ r. ⌜ r ≡ lengthFor (now (text .entry)) (now (room .entry)) ⌝ }
-    ensures { λ _. ⌜ now (room .exit) ≡ roomAfter (now (text .entry)) (now (room .entry)) ⌝ }
+    ensures { λ r. ⌜ r ≡ lengthFor (now (text .entry)) (runReportOf (now (text .entry))) (now (room .entry)) ⌝ }
+    ensures { λ _. ⌜ now (room .exit) ≡ roomAfter (now (text .entry)) (runReportOf (now (text .entry))) (now (room .entry)) ⌝ }
 {
     match report(text, room) {
         Reported::Length(n) => n,

@@ -6,7 +6,7 @@ ghost use Rattle.tables.specs.Runs.{runOf};
 ghost use Rattle.tables.specs.Sound.{Sound};
 ghost use Rattle.tables.specs.Steps.{emptyTables, refused};
 ghost use Rattle.tables.specs.Meets.{Links};
-ghost use Rattle.run_report.specs.Report.{answerTo};
+ghost use Rattle.reports.specs.RunReport.{answerTo};
 ghost use Rattle.run_report.specs.Parts.{Played};
 use kinds::AnswerNo;
 use rounds::step;

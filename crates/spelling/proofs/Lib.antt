@@ -4,7 +4,7 @@ pub mod Stores
 pub mod Puts
 pub mod Digits
 pub mod Decimals
-pub mod AnswerText
+pub mod Answers
 pub mod NumberTrip
 pub mod Senders
 pub mod Members

@@ -6,8 +6,11 @@ use mathlib.Core.List.{List, [], _∷_, _++_}
 use mathlib.Core.Path.{_≡_, refl, _∙_}
 use lib.ListN.{length, getD, set, take}
 use lib.Seq.{sets, sets-eq, take-at, getD-set-other}
-use Rattle.spelling.specs.Stored.{Stored, fitting}
-use Rattle.spelling.proofs.Stores.{room-front, room-after, stored-then, fitting-stored}
+use lib.Dec.{leb}
+use borrow.Author.Tests.{leb-true}
+use Rattle.common.proofs.Tests.{split}
+use Rattle.spelling.specs.Stored.{Stored, fits, fitting}
+use Rattle.spelling.proofs.Stores.{room-front, room-after, stored-then, stored-length, fitting-stored}
 
 -- w is put where there is room for it
 abbrev pub Put : List ℕ → ℕ → List ℕ → ℕ → List ℕ → Type 0
@@ -25,6 +28,13 @@ put-then {l} {at = at} w v p f h = stored-then (fitting-stored l at w (room-fron
 -- w is put last
 pub put-last : {l l′ : List ℕ} {at next : ℕ} (w : List ℕ) → Put l at w next l′ → at + length w ≤ length l → Stored l at w next l′
 put-last {l} {at = at} w p h = fitting-stored l at w h p
+
+-- where there is no room for w nothing is put, so what is put ends within the room
+pub put-inside : {l l′ : List ℕ} {at next : ℕ} (w : List ℕ) → Put l at w next l′ → at ≤ length l → next ≤ length l′
+unfolding fitting fits
+put-inside {l} {at = at} w p h = split (leb (at + length w) (length l))
+    (λ e. omega (arith, stored-length p, rw e at (p .place), leb-true (at + length w) (length l) e))
+    (λ e. omega (arith, stored-length p, rw e at (p .place)))
 
 -- what is stored at the front of a room that holds it is the room's front
 pub front : {l l′ : List ℕ} {next : ℕ} (w : List ℕ) → length w ≤ length l → Stored l 0 w next l′ → take next l′ ≡ w

@@ -1,4 +1,5 @@
 pub mod Numbers
+pub mod Answers
 pub mod Lines
 pub mod Stored
 pub mod Spelling

@@ -31,7 +31,3 @@ senderText key b f = key ++ (digits b ++ (ascii " from=" ++ digits f))
 
 abbrev pub startText : ℕ → ℕ → ℕ → List ℕ
 startText b v w = ascii "step=start bench=" ++ (digits b ++ (ascii " value=" ++ (digits v ++ (ascii " world=" ++ worldText w))))
-
--- a line's number and its answer
-abbrev pub answerText : ℕ → ℕ → List ℕ
-answerText k a = ascii "line=" ++ (digits k ++ (ascii " answer=" ++ digits a))

@@ -1,16 +1,24 @@
+-- `play` prints no byte from past the room: a report lies within it, and so does a refusal. Assumes nothing.
 use Prim.Native.Nat.{ℕ, _≤_}
-use mathlib.Core.Path.{sym}
-use native.Mathlib.Nat.{le-refl}
+use native.Mathlib.Omega.{arith}
+use mathlib.Core.List.{List}
+use mathlib.Core.Path.{_≡_, sym, _∙_}
 use lib.ListN.{length, replicate, length-replicate}
 use lib.Seq.{length-take-le}
-use Rattle.ledger_report.proofs.Theorems.{report-inside}
+use Rattle.spelling.proofs.Puts.{Put, put-inside}
+use Rattle.reports.specs.declared.Reported.{Reported}
+use Rattle.reports.specs.Reported.{Reports}
+use Rattle.reports.proofs.Theorems.{report-inside, room-length-kept}
 use borrow.Author.Needs.{needs}
 use Rattle.ledger_run.proofs.play.Statement.{statement}
 use Rattle.ledger_run.proofs.play.Tie as tie
 
--- stated of any length: at 1,377,401 the array would be computed
-long-enough : (n : ℕ) → n ≤ length {A = ℕ} (replicate n 0)
-long-enough n = rw (length-replicate {0} {A = ℕ} n 0) (le-refl n)
+end-inside : {l l′ : List ℕ} {next : ℕ} (w : List ℕ) → Put l 0 w next l′ → next ≤ length l′
+end-inside w p = put-inside w p (omega arith)
+
+-- the room is as long as it was; stated of any length, since at 1,377,401 the array would be computed
+still-long : (n : ℕ) {text report a : List ℕ} {r : Reported} → Reports text report (replicate n 0) r a → n ≡ length a
+still-long n p = sym (room-length-kept p ∙ length-replicate {0} {A = ℕ} n 0)
 
 report-requires : tie.Need-report-requires
 report-requires c κs = search needs
@@ -19,10 +27,12 @@ enum-known-length : tie.Need-enum-known-length
 enum-known-length c = search needs
 
 array-share-prefix-room : tie.Need-array-share-prefix-room
-array-share-prefix-room c = report-inside (c .before .before .before .report .ensures) (long-enough 1377401) _ (c .before .length .given .1)
+array-share-prefix-room c = report-inside (c .before .before .before .report .ensures) _ (c .before .length .given .1)
 
 slice-aggregate-print : tie.Need-slice-aggregate-print
-slice-aggregate-print c = sym (length-take-le _ _ (report-inside (c .before .before .before .before .report .ensures) (long-enough 1377401) _ (c .before .before .length .given .1)))
+slice-aggregate-print c =
+    let m = c .before .before in
+    sym (length-take-le _ _ (report-inside (m .before .before .report .ensures) _ (m .length .given .1)))
 
 print-requires : tie.Need-print-requires
 print-requires c κs = search needs
@@ -30,8 +40,20 @@ print-requires c κs = search needs
 enum-known-number : tie.Need-enum-known-number
 enum-known-number c = search needs
 
-print-refusal-requires : tie.Need-print-refusal-requires
-print-refusal-requires c κs = search needs
+slice-aggregate-put-refusal : tie.Need-slice-aggregate-put-refusal
+slice-aggregate-put-refusal c = still-long 1377401 (c .before .before .before .before .report .ensures)
+
+put-refusal-requires : tie.Need-put-refusal-requires
+put-refusal-requires c κs = search needs
+
+array-share-prefix-room-2 : tie.Need-array-share-prefix-room-2
+array-share-prefix-room-2 c = search end-inside
+
+slice-aggregate-print-2 : tie.Need-slice-aggregate-print-2
+slice-aggregate-print-2 c = sym (length-take-le _ _ (search end-inside))
+
+print-requires-2 : tie.Need-print-requires-2
+print-requires-2 c κs = search needs
 
 returns : tie.Need-returns
 returns c = search needs
@@ -49,6 +71,10 @@ play-spec =
     slice-aggregate-print
     print-requires
     enum-known-number
-    print-refusal-requires
+    slice-aggregate-put-refusal
+    put-refusal-requires
+    array-share-prefix-room-2
+    slice-aggregate-print-2
+    print-requires-2
     returns
     returns-2)

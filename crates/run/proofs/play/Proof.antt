@@ -1,9 +1,18 @@
+-- `play` prints no byte from past the room: a report lies within it, and so does a refusal. Assumes nothing.
+use Prim.Native.Nat.{ℕ, _≤_}
+use native.Mathlib.Omega.{arith}
+use mathlib.Core.List.{List}
 use mathlib.Core.Path.{sym}
+use lib.ListN.{length}
 use lib.Seq.{length-take-le}
-use Rattle.run_report.proofs.Theorems.{report-inside}
+use Rattle.spelling.proofs.Puts.{Put, put-inside}
+use Rattle.reports.proofs.Theorems.{report-inside}
 use borrow.Author.Needs.{needs}
 use Rattle.run.proofs.play.Statement.{statement}
 use Rattle.run.proofs.play.Tie as tie
+
+end-inside : {l l′ : List ℕ} {next : ℕ} (w : List ℕ) → Put l 0 w next l′ → next ≤ length l′
+end-inside w p = put-inside w p (omega arith)
 
 report-requires : tie.Need-report-requires
 report-requires c κs = search needs
@@ -12,10 +21,14 @@ enum-known-length : tie.Need-enum-known-length
 enum-known-length c = search needs
 
 slice-reshare-prefix-print : tie.Need-slice-reshare-prefix-print
-slice-reshare-prefix-print c = report-inside (c .before .before .before .before .before .report .ensures) _ (c .before .length .given .1)
+slice-reshare-prefix-print c =
+    let m = c .before in
+    report-inside (m .before .before .before .before .report .ensures) _ (m .length .given .1)
 
 slice-aggregate-print : tie.Need-slice-aggregate-print
-slice-aggregate-print c = sym (length-take-le _ _ (report-inside (c .before .before .before .before .before .before .report .ensures) _ (c .before .before .length .given .1)))
+slice-aggregate-print c =
+    let m = c .before .before in
+    sym (length-take-le _ _ (report-inside (m .before .before .before .before .report .ensures) _ (m .length .given .1)))
 
 print-requires : tie.Need-print-requires
 print-requires c κs = search needs
@@ -23,8 +36,17 @@ print-requires c κs = search needs
 enum-known-number : tie.Need-enum-known-number
 enum-known-number c = search needs
 
-print-refusal-requires : tie.Need-print-refusal-requires
-print-refusal-requires c κs = search needs
+put-refusal-requires : tie.Need-put-refusal-requires
+put-refusal-requires c κs = search needs
+
+slice-reshare-prefix-print-2 : tie.Need-slice-reshare-prefix-print-2
+slice-reshare-prefix-print-2 c = search end-inside
+
+slice-aggregate-print-2 : tie.Need-slice-aggregate-print-2
+slice-aggregate-print-2 c = sym (length-take-le _ _ (search end-inside))
+
+print-requires-2 : tie.Need-print-requires-2
+print-requires-2 c κs = search needs
 
 same-length : tie.Need-same-length
 same-length c = search needs
@@ -48,7 +70,10 @@ play-spec =
     slice-aggregate-print
     print-requires
     enum-known-number
-    print-refusal-requires
+    put-refusal-requires
+    slice-reshare-prefix-print-2
+    slice-aggregate-print-2
+    print-requires-2
     same-length
     returns
     same-length-2

@@ -1,4 +1,4 @@
-use Rattle.run_report.proofs.Reports.{length-got, refusal-got}
+use Rattle.reports.proofs.Settled.{length-got, refusal-got}
 use borrow.Author.Needs.{needs}
 use Rattle.run_report.proofs.funkenrille_report.Statement.{statement}
 use Rattle.run_report.proofs.funkenrille_report.Tie as tie

@@ -1,4 +1,4 @@
-use Rattle.ledger_report.proofs.LastLines.{senders-room, cursor-room, totals-room, end-stored}
+use Rattle.ledger_report.proofs.LastLines.{senders-room, cursor-room, end-stored}
 use borrow.Author.Needs.{needs}
 use Rattle.ledger_report.proofs.ending.store_end.Statement.{statement}
 use Rattle.ledger_report.proofs.ending.store_end.Tie as tie
@@ -12,8 +12,8 @@ cast-held c = search needs
 store-cursor-requires : tie.Need-store-cursor-requires
 store-cursor-requires c κs = search cursor-room
 
-store-totals-requires : tie.Need-store-totals-requires
-store-totals-requires c κs = search totals-room
+put-totals-requires : tie.Need-put-totals-requires
+put-totals-requires c κs = search needs
 
 same-length : tie.Need-same-length
 same-length c = search needs
@@ -28,6 +28,6 @@ store-end-spec =
     store-senders-requires
     cast-held
     store-cursor-requires
-    store-totals-requires
+    put-totals-requires
     same-length
     returns)

@@ -5,7 +5,8 @@ use mathlib.Core.Path.{sym}
 use lib.ListN.{length}
 use lib.Seq.{length-take-le}
 use Rattle.spelling.proofs.Stores.{stored-length}
-use Rattle.ledger_report.proofs.Played.{end-above, end-within, one-at-most, count-inside, front-few, Playing, playing-none, malformed-room, malformed-more, does-room, does-more, end-room, playing-all, held-few}
+use Rattle.ledger_report.proofs.Played.{end-above, end-within, count-inside, front-few, Playing, playing-none, malformed-room, malformed-more, does-room, does-more, end-room, playing-all, held-few}
+use Rattle.spelling.proofs.Answers.{refusal-one}
 use borrow.Author.Needs.{needs}
 use Rattle.ledger_report.proofs.playing.play_text.Statement.{statement}
 use Rattle.ledger_report.proofs.playing.play_text.Tie as tie
@@ -26,7 +27,7 @@ in-loop c = c .before .before .before
 abbrev start : tie.In-loop Inv-loop μ-loop → tie.Start Inv-loop μ-loop
 start c = c .before .before .before .before .before
 
-abbrev malformed : tie.After-store-answer Inv-loop μ-loop → tie.After-read-line Inv-loop μ-loop
+abbrev malformed : tie.After-store-ledger-line Inv-loop μ-loop → tie.After-read-line Inv-loop μ-loop
 malformed c = c .before .before .before .before .before
 
 abbrev played : tie.After-play Inv-loop μ-loop → tie.After-read-line Inv-loop μ-loop
@@ -72,11 +73,11 @@ enum-told c = search needs
 array-share-prefix-tags : tie.Need-array-share-prefix-tags Inv-loop μ-loop
 array-share-prefix-tags c = search needs
 
-slice-aggregate-store-answer : tie.Need-slice-aggregate-store-answer Inv-loop μ-loop
-slice-aggregate-store-answer c = search needs
+slice-aggregate-store-ledger-line : tie.Need-slice-aggregate-store-ledger-line Inv-loop μ-loop
+slice-aggregate-store-ledger-line c = search needs
 
-store-answer-requires : tie.Need-store-answer-requires Inv-loop μ-loop
-store-answer-requires c κs =
+store-ledger-line-requires : tie.Need-store-ledger-line-requires Inv-loop μ-loop
+store-ledger-line-requires c κs =
     let r = c .before .before .before .before in
     let l = in-loop r in (
       omega arith,
@@ -99,7 +100,7 @@ loop-again c =
     let s = c .before .before in
     let r = malformed s in
     let l = in-loop r in
-    malformed-more _ _ _ _ _ _ _ _ _ (l .before .loop .inv) (l .loop-test .taken) _ (r .before .before .line-end .ensures) _ (r .read-line .ensures) (s .before .before .before .enum-told .given .1) _ _ (s .store-answer .ensures)
+    malformed-more _ _ _ _ _ _ _ _ _ (l .before .loop .inv) (l .loop-test .taken) _ (r .before .before .line-end .ensures) _ (r .read-line .ensures) (s .before .before .before .enum-told .given .1) _ _ (s .store-ledger-line .ensures)
 
 play-requires : tie.Need-play-requires Inv-loop μ-loop
 play-requires c κs = search needs
@@ -107,11 +108,11 @@ play-requires c κs = search needs
 array-share-prefix-tags-2 : tie.Need-array-share-prefix-tags-2 Inv-loop μ-loop
 array-share-prefix-tags-2 c = count-inside _ _ _ _ _ _ _ (c .before .before .play .ensures)
 
-slice-aggregate-store-answer-2 : tie.Need-slice-aggregate-store-answer-2 Inv-loop μ-loop
-slice-aggregate-store-answer-2 c = sym (length-take-le _ _ (count-inside _ _ _ _ _ _ _ (c .before .before .before .play .ensures)))
+slice-aggregate-store-ledger-line-2 : tie.Need-slice-aggregate-store-ledger-line-2 Inv-loop μ-loop
+slice-aggregate-store-ledger-line-2 c = sym (length-take-le _ _ (count-inside _ _ _ _ _ _ _ (c .before .before .before .play .ensures)))
 
-store-answer-requires-2 : tie.Need-store-answer-requires-2 Inv-loop μ-loop
-store-answer-requires-2 c κs =
+store-ledger-line-requires-2 : tie.Need-store-ledger-line-requires-2 Inv-loop μ-loop
+store-ledger-line-requires-2 c κs =
     let p = c .before .before .before in
     let r = played p in
     let l = in-loop r in (
@@ -126,7 +127,7 @@ add-refused-2 : tie.Need-add-refused-2 Inv-loop μ-loop
 add-refused-2 c =
     let p = c .before .before .before .before .before .before .before in
     let l = in-loop (played p) in
-    omega (arith, l .before .loop .inv .few, l .before .loop .inv .fewer, l .before .loop .inv .within, start l .pre .0, one-at-most (p .play .result .number) (c .refusal .result) (c .refusal .ensures))
+    omega (arith, l .before .loop .inv .few, l .before .loop .inv .fewer, l .before .loop .inv .within, start l .pre .0, refusal-one (p .play .result .number) (c .refusal .result) (c .refusal .ensures))
 
 loop-less-2 : tie.Need-loop-less-2 Inv-loop μ-loop
 loop-less-2 c =
@@ -140,7 +141,7 @@ loop-again-2 c =
     let p = s .before .before .before .before in
     let r = played p in
     let l = in-loop r in
-    does-more _ _ _ _ _ _ _ _ _ (l .before .loop .inv) (l .loop-test .taken) _ (r .before .before .line-end .ensures) _ (r .read-line .ensures) _ (p .before .before .before .before .line .given .1) _ _ _ _ (p .play .ensures) _ (c .refusal .ensures) _ _ (s .store-answer2 .ensures)
+    does-more _ _ _ _ _ _ _ _ _ (l .before .loop .inv) (l .loop-test .taken) _ (r .before .before .line-end .ensures) _ (r .read-line .ensures) _ (p .before .before .before .before .line .given .1) _ _ _ _ (p .play .ensures) _ (c .refusal .ensures) _ _ (s .store-ledger-line2 .ensures)
 
 store-end-requires : tie.Need-store-end-requires Inv-loop μ-loop
 store-end-requires c κs =
@@ -175,15 +176,15 @@ play-text-spec =
     enum-known-line
     enum-told
     array-share-prefix-tags
-    slice-aggregate-store-answer
-    store-answer-requires
+    slice-aggregate-store-ledger-line
+    store-ledger-line-requires
     add-refused
     loop-less
     loop-again
     play-requires
     array-share-prefix-tags-2
-    slice-aggregate-store-answer-2
-    store-answer-requires-2
+    slice-aggregate-store-ledger-line-2
+    store-ledger-line-requires-2
     refusal-requires
     add-refused-2
     loop-less-2

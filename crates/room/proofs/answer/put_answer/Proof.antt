@@ -1,6 +1,6 @@
 -- `put_answer` meets its contract. Where 33 bytes are left there is room for both. Assumes nothing.
 use Rattle.spelling.proofs.Stores.{stored-fitting}
-use Rattle.spelling.proofs.AnswerText.{answer-room}
+use Rattle.spelling.proofs.Answers.{answer-room}
 use borrow.Author.Needs.{needs}
 use Rattle.room.proofs.answer.put_answer.Statement.{statement}
 use Rattle.room.proofs.answer.put_answer.Tie as tie
@@ -8,14 +8,14 @@ use Rattle.room.proofs.answer.put_answer.Tie as tie
 has-room-requires : tie.Need-has-room-requires
 has-room-requires c κs = search needs
 
-store-answer-requires : tie.Need-store-answer-requires
-store-answer-requires c κs = answer-room _ _ _ (c .before .before .has-room .ensures) (c .before .if1 .taken)
+store-answer-text-requires : tie.Need-store-answer-text-requires
+store-answer-text-requires c κs = answer-room _ _ _ (c .before .before .has-room .ensures) (c .before .if1 .taken)
 
 same-length : tie.Need-same-length
 same-length c = search needs
 
 returns : tie.Need-returns
-returns c = stored-fitting (answer-room _ _ _ (c .before .before .before .before .before .has-room .ensures) (c .before .before .before .before .if1 .taken)) (c .before .before .store-answer .ensures)
+returns c = stored-fitting (answer-room _ _ _ (c .before .before .before .before .before .has-room .ensures) (c .before .before .before .before .if1 .taken)) (c .before .before .store-answer-text .ensures)
 
 put-measured-requires : tie.Need-put-measured-requires
 put-measured-requires c κs = search needs
@@ -31,7 +31,7 @@ put-answer-spec =
     tie.close
     (tie.spec
     has-room-requires
-    store-answer-requires
+    store-answer-text-requires
     same-length
     returns
     put-measured-requires

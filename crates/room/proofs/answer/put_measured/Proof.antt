@@ -1,9 +1,9 @@
 -- `put_measured` meets its contract. With room what fits is both, without it nothing. Assumes nothing.
 use native.Mathlib.Omega.{arith}
-use Rattle.spelling.specs.Storing.{answerText}
+use Rattle.spelling.specs.Answers.{answerText}
 use Rattle.spelling.proofs.Stores.{room-is, room-not, short-measured, room-measured, not-fitting, stored-fitting}
 use Rattle.spelling.proofs.Decimals.{number-short}
-use Rattle.spelling.proofs.AnswerText.{answer-measured}
+use Rattle.spelling.proofs.Answers.{answer-measured}
 use borrow.Author.Needs.{needs}
 use Rattle.room.proofs.answer.put_measured.Statement.{statement}
 use Rattle.room.proofs.answer.put_measured.Tie as tie
@@ -28,24 +28,26 @@ same-length c = search needs
 
 returns : tie.Need-returns
 returns c =
-    let m = answer-measured _ _ (c .before .before .before .before .number-length .ensures) (c .before .before .before .number-length2 .ensures) in
+    let n = c .before .before .before in
+    let m = answer-measured _ _ (n .before .number-length .ensures) (n .number-length2 .ensures) in
     not-fitting _ _ (answerText _ _) (short-measured _ (answerText _ _) _ _ m (room-not (c .before .has-room .ensures) (c .if1 .taken)))
 
-store-answer-requires : tie.Need-store-answer-requires
-store-answer-requires c κs =
-    let m = answer-measured _ _ (c .before .before .before .before .before .number-length .ensures) (c .before .before .before .before .number-length2 .ensures) in
-    room-measured _ (answerText _ _) _ _ m (room-is (c .before .before .has-room .ensures) (c .before .if1 .left))
+store-answer-text-requires : tie.Need-store-answer-text-requires
+store-answer-text-requires c κs =
+    let r = c .before .before in
+    let n = r .before .before in
+    let m = answer-measured _ _ (n .before .number-length .ensures) (n .number-length2 .ensures) in
+    room-measured _ (answerText _ _) _ _ m (room-is (r .has-room .ensures) (c .before .if1 .left))
 
 same-length-2 : tie.Need-same-length-2
 same-length-2 c = search needs
 
 returns-2 : tie.Need-returns-2
 returns-2 c =
-    let way = c .before .before .before .before in
-    let at-number-length2 = way .before .before .before in
-    let at-number-length = at-number-length2 .before in
-    let m = answer-measured _ _ (at-number-length .number-length .ensures) (at-number-length2 .number-length2 .ensures) in
-    stored-fitting (room-measured _ (answerText _ _) _ _ m (room-is (c .before .before .before .before .before .has-room .ensures) (c .before .before .before .before .if1 .left))) (c .before .before .store-answer .ensures)
+    let r = c .before .before .before .before .before in
+    let n = r .before .before in
+    let m = answer-measured _ _ (n .before .number-length .ensures) (n .number-length2 .ensures) in
+    stored-fitting (room-measured _ (answerText _ _) _ _ m (room-is (r .has-room .ensures) (c .before .before .before .before .if1 .left))) (c .before .before .store-answer-text .ensures)
 
 pub put-measured-spec : {M : Type 1} → statement M
 put-measured-spec =
@@ -58,6 +60,6 @@ put-measured-spec =
     has-room-requires
     same-length
     returns
-    store-answer-requires
+    store-answer-text-requires
     same-length-2
     returns-2)

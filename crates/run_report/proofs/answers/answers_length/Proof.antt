@@ -2,7 +2,8 @@ use native.Mathlib.Omega.{arith}
 use borrow.Author.Needs.{needs}
 use Prim.Native.Nat.{_-_}
 use lib.ListN.{length}
-use Rattle.run_report.proofs.AnswerLines.{Measured, measured-none, measured-more, measured-all, line-short}
+use Rattle.run_report.proofs.AnswerLines.{Measured, measured-none, measured-more, measured-all}
+use Rattle.reports.proofs.RunLines.{line-short}
 use Rattle.run_report.proofs.answers.answers_length.Statement.{statement}
 use Rattle.run_report.proofs.answers.answers_length.Tie as tie
 

@@ -1,6 +1,7 @@
 use native.Mathlib.Omega.{arith}
 use denote.Ref.{now}
-use Rattle.run_report.proofs.AnswerLines.{lines-short, lines-fit, lines-counted}
+use Rattle.run_report.proofs.AnswerLines.{lines-fit, lines-counted}
+use Rattle.reports.proofs.RunLines.{lines-short}
 use borrow.Author.Needs.{needs}
 use Rattle.run_report.proofs.answers.room_for.Statement.{statement}
 use Rattle.run_report.proofs.answers.room_for.Tie as tie

@@ -14,17 +14,17 @@ abbrev μ-loop : tie.MeasureT-loop
 loop-holds : tie.Need-loop-holds Inv-loop μ-loop
 loop-holds c = search storing-none
 
-cast-store-answer : tie.Need-cast-store-answer Inv-loop μ-loop
-cast-store-answer c = search needs
+cast-store-answer-line : tie.Need-cast-store-answer-line Inv-loop μ-loop
+cast-store-answer-line c = search needs
 
-add-store-answer : tie.Need-add-store-answer Inv-loop μ-loop
-add-store-answer c = search needs
+add-store-answer-line : tie.Need-add-store-answer-line Inv-loop μ-loop
+add-store-answer-line c = search needs
 
-shared-slice-read-store-answer : tie.Need-shared-slice-read-store-answer Inv-loop μ-loop
-shared-slice-read-store-answer c = search needs
+shared-slice-read-store-answer-line : tie.Need-shared-slice-read-store-answer-line Inv-loop μ-loop
+shared-slice-read-store-answer-line c = search needs
 
-store-answer-requires : tie.Need-store-answer-requires Inv-loop μ-loop
-store-answer-requires c κs = search storing-room
+store-answer-line-requires : tie.Need-store-answer-line-requires Inv-loop μ-loop
+store-answer-line-requires c κs = search storing-room
 
 add-i : tie.Need-add-i Inv-loop μ-loop
 add-i c = search needs
@@ -48,10 +48,10 @@ store-answers-spec =
     Inv-loop
     μ-loop
     loop-holds
-    cast-store-answer
-    add-store-answer
-    shared-slice-read-store-answer
-    store-answer-requires
+    cast-store-answer-line
+    add-store-answer-line
+    shared-slice-read-store-answer-line
+    store-answer-line-requires
     add-i
     loop-less
     loop-again

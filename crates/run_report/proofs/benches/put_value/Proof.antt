@@ -1,7 +1,7 @@
 use Rattle.reads.specs.declared.Decision.the-variants.{None, Chosen}
 use Rattle.run_report.proofs.BenchLines.{value-put}
 use Rattle.reads.specs.Decisions.{decisionIs}
-use Rattle.run_report.specs.Report.{valueText}
+use Rattle.reports.specs.RunReport.{valueText}
 use borrow.Author.Needs.{needs}
 use Rattle.run_report.proofs.benches.put_value.Statement.{statement}
 use Rattle.run_report.proofs.benches.put_value.Tie as tie

@@ -27,8 +27,8 @@ slice-aggregate-put-bytes c = search needs
 put-bytes-requires : tie.Need-put-bytes-requires
 put-bytes-requires c κs = search needs
 
-put-state-requires : tie.Need-put-state-requires
-put-state-requires c κs = search needs
+put-state-name-requires : tie.Need-put-state-name-requires
+put-state-name-requires c κs = search needs
 
 slice-aggregate-put-field-2 : tie.Need-slice-aggregate-put-field-2
 slice-aggregate-put-field-2 c = search needs
@@ -66,7 +66,7 @@ returns-2 c =
     let d = p₁ .before .before .before in
     let s = d .before in
     row-stored _ _ _ (s .before .before .state-of .ensures) _ _ (s .sent-of .ensures) (d .decision-of .ensures) (s .before .if1 .left) (p₁ .put-field .ensures)
-    (p₂ .put-bytes .ensures) (p₃ .put-state .ensures) (p₄ .put-field2 .ensures) (p₅ .put-bytes2 .ensures) (p₆ .put-value .ensures) (p₇ .put-bytes3 .ensures)
+    (p₂ .put-bytes .ensures) (p₃ .put-state-name .ensures) (p₄ .put-field2 .ensures) (p₅ .put-bytes2 .ensures) (p₆ .put-value .ensures) (p₇ .put-bytes3 .ensures)
     (s .before .before .before .before .pre)
 
 pub store-bench-spec : {M : Type 1} → statement M
@@ -81,7 +81,7 @@ store-bench-spec =
     put-field-requires
     slice-aggregate-put-bytes
     put-bytes-requires
-    put-state-requires
+    put-state-name-requires
     slice-aggregate-put-field-2
     put-field-requires-2
     slice-aggregate-put-bytes-2

@@ -31,19 +31,28 @@ returns : tie.Need-returns Inv-loop μ-loop
 returns c = playing-all _ _ _ _ _ _ _ (c .before .before .before .loop .inv) (sym (c .before .before .read-line .ensures) ∙ c .enum-told .given .1)
 
 answer-to-requires : tie.Need-answer-to-requires Inv-loop μ-loop
-answer-to-requires c κs = c .before .before .before .before .before .before .loop .inv .sound
+answer-to-requires c κs = let r = c .before .before .before .before .before in r .before .loop .inv .sound
 
 slice-write-answers : tie.Need-slice-write-answers Inv-loop μ-loop
-slice-write-answers c = playing-room _ _ _ _ _ _ _ (c .before .before .before .before .before .before .before .loop .inv) _ _ (sym (c .before .before .before .before .before .before .read-line .ensures) ∙ c .before .before .before .before .line .given .1)
+slice-write-answers c =
+    let l = c .before .before .before .before in
+    let r = l .before .before in
+    playing-room _ _ _ _ _ _ _ (r .before .loop .inv) _ _ (sym (r .read-line .ensures) ∙ l .line .given .1)
 
 add-count : tie.Need-add-count Inv-loop μ-loop
 add-count c = search needs
 
 loop-less : tie.Need-loop-less Inv-loop μ-loop
-loop-less c = playing-less _ _ _ _ _ _ _ (c .before .before .before .before .before .before .before .loop .inv) _ _ (sym (c .before .before .before .before .before .before .read-line .ensures) ∙ c .before .before .before .before .line .given .1)
+loop-less c =
+    let l = c .before .before .before .before in
+    let r = l .before .before in
+    playing-less _ _ _ _ _ _ _ (r .before .loop .inv) _ _ (sym (r .read-line .ensures) ∙ l .line .given .1)
 
 loop-again : tie.Need-loop-again Inv-loop μ-loop
-loop-again c = playing-more _ _ _ _ _ _ _ (c .before .before .before .before .before .before .before .loop .inv) _ _ (sym (c .before .before .before .before .before .before .read-line .ensures) ∙ c .before .before .before .before .line .given .1) _ _ _ (c .answer-to .ensures)
+loop-again c =
+    let l = c .before .before .before .before in
+    let r = l .before .before in
+    playing-more _ _ _ _ _ _ _ (r .before .loop .inv) _ _ (sym (r .read-line .ensures) ∙ l .line .given .1) _ _ _ (c .answer-to .ensures)
 
 pub play-spec : {M : Type 1} → statement M
 play-spec =

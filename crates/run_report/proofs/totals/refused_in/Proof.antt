@@ -3,7 +3,8 @@ use borrow.Author.Needs.{needs}
 use Prim.Native.Nat.{_-_}
 use denote.Ref.{now}
 use lib.ListN.{length, getD}
-use Rattle.run_report.proofs.TotalsLine.{Counted, counted-none, counted-more, counted-all, one-or-none}
+use Rattle.run_report.proofs.TotalsLine.{Counted, counted-none, counted-more, counted-all}
+use Rattle.spelling.proofs.Answers.{refusal-one}
 use Rattle.run_report.proofs.totals.refused_in.Statement.{statement}
 use Rattle.run_report.proofs.totals.refused_in.Tie as tie
 
@@ -23,7 +24,7 @@ refusal-requires : tie.Need-refusal-requires Inv-loop μ-loop
 refusal-requires c κs = search needs
 
 add-n : tie.Need-add-n Inv-loop μ-loop
-add-n c = omega (arith, one-or-none (getD (now (c .before .before .before .before .before .args .answers)) (c .before .before .before .loop .i) 0) _ (c .refusal .ensures))
+add-n c = omega (arith, refusal-one (getD (now (c .before .before .before .before .before .args .answers)) (c .before .before .before .loop .i) 0) _ (c .refusal .ensures))
 
 add-i : tie.Need-add-i Inv-loop μ-loop
 add-i c = search needs

@@ -1,0 +1,10 @@
+pub mod Settled
+pub mod RunLines
+pub mod RunLengths
+pub mod Tags
+pub mod LedgerLines
+pub mod LedgerLengths
+pub mod WholeCase
+pub mod LedgerExample
+pub mod Decisions
+pub mod Theorems

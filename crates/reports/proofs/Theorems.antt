@@ -1,0 +1,107 @@
+-- What is proved of both reports: what is promised settles everything, nothing is written on a refusal, how long a report can be, document 01's whole
+-- case and a ledger script byte for byte, and that all decisions of a report agree. Each statement stands below its words, the proofs are in the other
+-- files. Assumes nothing.
+use Prim.Native.Nat.{ℕ, _≤_}
+use mathlib.Core.List.{List, _++_}
+use mathlib.Core.Path.{_≡_}
+use lib.ListN.{length, getD, take}
+use Rattle.published.specs.Rounds.{newRun, chosen, start, upTo}
+use Rattle.spelling.specs.Reading.{readText}
+use Rattle.reports.specs.declared.Reported.{Reported}
+use Rattle.reports.specs.declared.Reported.the-variants.{Length}
+use Rattle.reports.specs.Reported.{numberOf, lengthOf, numberFor, lengthFor, Reports}
+use Rattle.reports.specs.RunReport.{answersFrom, stepsOf, runAfter, answerLines, benchLines, totalsOf, runReportOf}
+use Rattle.reports.specs.LedgerReport.{ledgerReportOf}
+use Rattle.reports.specs.Accepted.{Accepted}
+use Rattle.reports.proofs.Settled as settled
+use Rattle.reports.proofs.RunLengths as run
+use Rattle.reports.proofs.LedgerLengths as ledger
+use Rattle.reports.proofs.Decisions as decisions
+use Rattle.reports.proofs.WholeCase as case
+use Rattle.reports.proofs.LedgerExample as script
+
+-- ---- the promise settles everything, whatever the report
+
+-- Two answers with their rooms that are both promised of one text, one report that is not empty and one room are equal: the answer, and every byte of the room.
+pub report-settles : {text report room a a′ : List ℕ} {r r′ : Reported} → 1 ≤ length report → Reports text report room r a → Reports text report room r′ a′ → (r ≡ r′) × (a ≡ a′)
+report-settles some = settled.report-settles _ _ _ some
+
+-- A refusal leaves every byte of the room as it was.
+pub refused-writes-nothing : {text report room a : List ℕ} {r : Reported} → Reports text report room r a → (numberOf r ≡ 0 → ⊥) → a ≡ room
+refused-writes-nothing = settled.refused-keeps
+
+-- Otherwise the report stands at the room's front, and the places past it keep what they held.
+pub report-stands : {text report room a : List ℕ} {r : Reported} → Reports text report room r a → numberOf r ≡ 0 → take (lengthOf r) a ≡ report
+report-stands = settled.report-stands
+
+pub past-report-kept : {text report room a : List ℕ} {r : Reported} → Reports text report room r a → (i : ℕ) → lengthOf r ≤ i → getD a i 0 ≡ getD room i 0
+past-report-kept = settled.past-kept
+
+-- In any case the room is as long as it was.
+pub room-length-kept : {text report room a : List ℕ} {r : Reported} → Reports text report room r a → length a ≡ length room
+room-length-kept = settled.room-length
+
+-- A report lies within the room.
+pub report-inside : {text report room a : List ℕ} {r : Reported} → Reports text report room r a → (n : ℕ) → r ≡ Length n → n ≤ length a
+report-inside = settled.length-inside
+
+-- Of a report that is not empty, the length that C gets is 0 exactly when the text or the room was refused.
+pub zero-is-refused : (text report room : List ℕ) → 1 ≤ length report → (lengthFor text report room ≡ 0 → numberFor text report room ≡ 0 → ⊥) × ((numberFor text report room ≡ 0 → ⊥) → lengthFor text report room ≡ 0)
+zero-is-refused = settled.zero-is-refused
+
+-- ---- how long a report is
+
+-- No report of a run text is empty, and none of a ledger script.
+pub run-report-never-empty : (text : List ℕ) → 1 ≤ length (runReportOf text)
+run-report-never-empty = run.run-some
+
+pub ledger-report-never-empty : (text : List ℕ) → 1 ≤ length (ledgerReportOf text)
+ledger-report-never-empty = ledger.ledger-some
+
+-- No report of a run text is longer than 1,365,176 bytes.
+pub run-report-length-bound : (text : List ℕ) → length text ≤ 65536 → length (runReportOf text) ≤ 1365176
+run-report-length-bound = run.run-short
+
+-- So with that much room every run text that is not too long gets its report.
+pub room-enough : (text room : List ℕ) → length text ≤ 65536 → 1365176 ≤ length room → numberFor text (runReportOf text) room ≡ 0
+room-enough = run.run-room
+
+-- No report of a ledger script is longer than 1,377,401 bytes.
+pub ledger-report-length-bound : (text : List ℕ) → length text ≤ 65536 → length (ledgerReportOf text) ≤ 1377401
+ledger-report-length-bound = ledger.ledger-short
+
+-- So a room of that many bytes, which the ledger's report function asks for by its type, is never refused by 22.
+pub ledger-room-never-short : (text room : List ℕ) → 1377401 ≤ length room → numberFor text (ledgerReportOf text) room ≡ 22 → ⊥
+ledger-room-never-short = ledger.ledger-room
+
+-- ---- examples, byte for byte
+
+-- Document 01's whole case: the report of its input is its output.
+pub whole-case : runReportOf case.input ≡ case.output
+whole-case = case.whole-case
+
+-- The same of a text with benches that decided, left and failed, and with malformed lines.
+pub ended-case : runReportOf case.ended-input ≡ case.ended-output
+ended-case = case.ended-case
+
+-- The report of a ledger script with P9 and P10 of document 01 in it.
+pub example : ledgerReportOf script.input ≡ script.output
+example = script.example
+
+-- ---- the decisions of a run text's report
+
+-- A report is the lines of the answers, then the lines of the benches of the run of which the next three speak, then the totals.
+pub report-prints : (text : List ℕ) → runReportOf text ≡ answerLines 1 (answersFrom newRun (readText 16 text)) ++ (benchLines 16 (runAfter text) ++ totalsOf (answersFrom newRun (readText 16 text)))
+report-prints = decisions.report-prints
+
+-- In every report all decided values are equal.
+pub report-agrees : (text : List ℕ) (i j d e : ℕ) → runAfter text i .decision ≡ chosen d → runAfter text j .decision ≡ chosen e → d ≡ e
+report-agrees = decisions.report-agrees
+
+-- Each is a value that some accepted start line of the text gave.
+pub report-valid : (text : List ℕ) (i d : ℕ) → runAfter text i .decision ≡ chosen d → (b : ℕ) × (w : ℕ) × Accepted 16 (upTo 96) (start b d w) newRun (stepsOf (readText 16 text))
+report-valid = decisions.report-valid
+
+-- And it is not above the value that the bench's own accepted start line gave.
+pub report-bounded : (text : List ℕ) (i d : ℕ) → runAfter text i .decision ≡ chosen d → (v : ℕ) × (w : ℕ) × Accepted 16 (upTo 96) (start i v w) newRun (stepsOf (readText 16 text)) × (d ≤ v)
+report-bounded = decisions.report-bounded

@@ -1,0 +1,4 @@
+pub mod Reported
+pub mod RunReport
+pub mod LedgerReport
+pub mod Accepted
