@@ -11,6 +11,7 @@ pub mod Decisions
 pub mod Window
 pub mod Reached
 pub mod Records
+pub mod Starts
 pub mod Refusals
 pub mod Locality
 pub mod Theorems

@@ -12,7 +12,7 @@ use Rattle.reports.specs.declared.Reported.the-variants.{Length}
 use Rattle.reports.specs.Reported.{numberOf, lengthOf, numberFor, lengthFor, Reports}
 use Rattle.reports.specs.RunReport.{answersFrom, stepsOf, runAfter, answerLines, benchLines, totalsOf, runReportOf}
 use Rattle.reports.specs.LedgerReport.{ledgerReportOf}
-use Rattle.reports.specs.Accepted.{Accepted}
+use Rattle.published.specs.Accepted.{Accepted}
 use Rattle.reports.proofs.Settled as settled
 use Rattle.reports.proofs.RunLengths as run
 use Rattle.reports.proofs.LedgerLengths as ledger

@@ -1,4 +1,3 @@
 pub mod Reported
 pub mod RunReport
 pub mod LedgerReport
-pub mod Accepted

@@ -7,7 +7,6 @@ use native.Mathlib.Omega.{arith}
 use lib.ListN.{getD}
 use Rattle.published.specs.Rounds.{Run, Step, start, turn, step, runFrom, upTo, newRun, chosen}
 use Rattle.published.proofs.Theorems as published
-use Rattle.published.proofs.Invariant.{M}
 use Rattle.published.proofs.Locality.{history}
 use Rattle.bench.specs.declared.Bench.{Bench}
 use Rattle.bench.specs.declared.Answer.{Answer}
@@ -19,12 +18,13 @@ use Rattle.tables.specs.Steps.{Tables, Act, Acts, turnBy, turnOn, turnAt
 use Rattle.tables.specs.Runs.{runOf}
 use Rattle.tables.specs.Sound.{Sound}
 use Rattle.tables.specs.Meets.{Links, Meets}
-use Rattle.tables.specs.Accepted.{Accepted}
+use Rattle.published.specs.Accepted.{Accepted}
+use Rattle.published.proofs.Starts.{accepted-start}
 use Rattle.tables.proofs.Lines.{KeepsRounds}
 use Rattle.tables.proofs.Steps.{links}
 use Rattle.tables.proofs.Empty as empty
 use Rattle.tables.proofs.Meeting.{empty-meet}
-use Rattle.tables.proofs.Decisions.{decision-is, proposal-accepted}
+use Rattle.tables.proofs.Decisions.{decision-is}
 use Rattle.tables.proofs.Local.{heard-local}
 
 -- ---- the tables are the published rounds
@@ -73,24 +73,21 @@ module _ (N R : ℕ) (hR : 1 ≤ R) (l : List Step) where
   decided : (k : ℕ) → Chose k → runFrom N (upTo R) newRun l (suc k) .decision ≡ chosen (value k)
   decided k c = ap (λ (s : Run). s (suc k) .decision) (tables-meet N R hR l .run-is) ∙ decision-is N R (after .benches) (after .logs) k c
 
-  given : (i v w : ℕ) → M (runFrom N (upTo R) newRun l) i 1 v w → Accepted N R (start i v w) (emptyTables N R) l
-  given i v w m = proposal-accepted N R hR l i v w (rw (tables-meet N R hR l .run-is) at m)
-
   -- Agreement: any two rows that have decided hold one value, those of benches that left or failed later included.
   pub agreement : (i j : ℕ) → Chose i → Chose j → value i ≡ value j
   agreement i j c d = published.agreement N (upTo R) l (suc i) (suc j) (value i) (value j) (decided i c) (decided j d)
 
   -- Validity: the value was given by a start that was accepted.
-  pub validity : (k : ℕ) → Chose k → (b : ℕ) × (w : ℕ) × Accepted N R (start b (value k) w) (emptyTables N R) l
+  pub validity : (k : ℕ) → Chose k → (b : ℕ) × (w : ℕ) × Accepted N (upTo R) (start b (value k) w) newRun l
   validity k c =
       let p = published.validity N (upTo R) l (suc k) (value k) (decided k c) in
-      (p .by, p .by-world, given (p .by) (value k) (p .by-world) (p .by-message))
+      (p .by, p .by-world, accepted-start N (upTo R) (p .by) (value k) (p .by-world) l (p .by-message))
 
   -- No bench decides above its own proposal: it was started, with a value not below.
-  pub not-above-own : (k : ℕ) → Chose k → (v : ℕ) × (w : ℕ) × (Accepted N R (start (suc k) v w) (emptyTables N R) l) × (value k ≤ v)
+  pub not-above-own : (k : ℕ) → Chose k → (v : ℕ) × (w : ℕ) × (Accepted N (upTo R) (start (suc k) v w) newRun l) × (value k ≤ v)
   not-above-own k c =
       let p = published.not-above-own N (upTo R) l (suc k) (value k) (decided k c) in
-      (p .own-value, p .own-world, given (suc k) (p .own-value) (p .own-world) (p .own-message), p .not-above)
+      (p .own-value, p .own-world, accepted-start N (upTo R) (suc k) (p .own-value) (p .own-world) l (p .own-message), p .not-above)
 
 -- ---- a promise settles everything
 

@@ -4,4 +4,3 @@ pub mod Steps
 pub mod Runs
 pub mod Sound
 pub mod Meets
-pub mod Accepted

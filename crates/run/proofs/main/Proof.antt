@@ -1,3 +1,4 @@
+-- `main` lends two arrays, whose lengths are their types'.
 use mathlib.Core.Path.{sym}
 use Prim.Native.Nat.{ℕ}
 use lib.ListN.{length-replicate}

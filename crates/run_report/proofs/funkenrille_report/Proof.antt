@@ -1,3 +1,4 @@
+-- `funkenrille_report`: by what `report` answers.
 use Rattle.reports.proofs.Settled.{length-got, refusal-got}
 use borrow.Author.Needs.{needs}
 use Rattle.run_report.proofs.funkenrille_report.Statement.{statement}

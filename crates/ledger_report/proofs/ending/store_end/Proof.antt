@@ -1,3 +1,4 @@
+-- `store_end`: the senders' lines, the cursor's and the totals, one after another.
 use Rattle.ledger_report.proofs.LastLines.{senders-room, cursor-room, end-stored}
 use borrow.Author.Needs.{needs}
 use Rattle.ledger_report.proofs.ending.store_end.Statement.{statement}

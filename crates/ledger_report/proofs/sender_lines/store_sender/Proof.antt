@@ -1,3 +1,4 @@
+-- `store_sender`: by the row, as the definition goes.
 use Rattle.ledger_report.proofs.SenderLines.{unknown-stored, joined-room, joined-stored, ended-room, ended-stored}
 use borrow.Author.Needs.{needs}
 use Rattle.ledger_report.proofs.sender_lines.store_sender.Statement.{statement}

@@ -1,3 +1,4 @@
+-- `store_senders`: the lines of the senders so far are stored.
 use Prim.Native.Nat.{_-_}
 use Rattle.spelling.proofs.Stores.{stored-length}
 use Rattle.ledger.specs.Seen.{rowsOf}

@@ -1,3 +1,4 @@
+-- `store_slots`: three fields put one after another.
 use Rattle.ledger_report.proofs.SenderLines.{slots-stored}
 use borrow.Author.Needs.{needs}
 use Rattle.ledger_report.proofs.sender_lines.store_slots.Statement.{statement}

@@ -1,3 +1,4 @@
+-- `refusal`: by whether the answer is 0.
 use borrow.Author.Tests.{eq-eqb, ne-eqb}
 use Rattle.room.proofs.totals.refusal.Statement.{statement}
 use Rattle.room.proofs.totals.refusal.Tie as tie

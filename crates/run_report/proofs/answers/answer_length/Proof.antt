@@ -1,3 +1,4 @@
+-- `answer_length`: the keys have 14 bytes with the line's end, and the rest are the digits of two numbers.
 use native.Mathlib.Omega.{arith}
 use Rattle.spelling.proofs.Decimals.{digits-length}
 use Rattle.run_report.proofs.AnswerLines.{line-measured}

@@ -1,3 +1,4 @@
+-- `answers_length`: the sum of the lines so far, and what is left.
 use native.Mathlib.Omega.{arith}
 use borrow.Author.Needs.{needs}
 use Prim.Native.Nat.{_-_}

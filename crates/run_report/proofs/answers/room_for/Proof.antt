@@ -1,3 +1,4 @@
+-- `room_for`: no line is longer than 34 bytes; where that is not enough to tell, the lines are measured.
 use native.Mathlib.Omega.{arith}
 use denote.Ref.{now}
 use Rattle.run_report.proofs.AnswerLines.{lines-fit, lines-counted}

@@ -1,3 +1,4 @@
+-- `store_answer_line`: the answer's text is put, and byte 10 behind it.
 use Rattle.run_report.proofs.AnswerLines.{line-stored}
 use borrow.Author.Needs.{needs}
 use Rattle.run_report.proofs.answers.store_answer_line.Statement.{statement}

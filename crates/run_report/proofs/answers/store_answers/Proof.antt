@@ -1,3 +1,4 @@
+-- `store_answers`: of all lines, those from here on are still to be stored.
 use borrow.Author.Needs.{needs}
 use Prim.Native.Nat.{_-_}
 use lib.ListN.{length}

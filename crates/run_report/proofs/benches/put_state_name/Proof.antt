@@ -1,3 +1,4 @@
+-- `put_state_name`: by the word of the state, as `stateOf` goes.
 use Rattle.run_report.proofs.BenchLines.{state-put, failed-put}
 use Rattle.tables.specs.Runs.{stateOf}
 use Rattle.reports.specs.RunReport.{stateText}

@@ -1,3 +1,4 @@
+-- `put_value`: by whether the bench has decided.
 use Rattle.reads.specs.declared.Decision.the-variants.{None, Chosen}
 use Rattle.run_report.proofs.BenchLines.{value-put}
 use Rattle.reads.specs.Decisions.{decisionIs}

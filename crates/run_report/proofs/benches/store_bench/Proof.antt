@@ -1,3 +1,4 @@
+-- `store_bench`: a fresh bench has no line; of any other the parts are put one after another, and the room holds the longest.
 use Rattle.run_report.proofs.BenchLines.{fresh-stored, row-stored}
 use borrow.Author.Needs.{needs}
 use Rattle.run_report.proofs.benches.store_bench.Statement.{statement}

@@ -1,3 +1,4 @@
+-- `store_benches`: the lines of the benches so far are stored, and none is longer than 67 bytes.
 use Prim.Native.Nat.{_-_}
 use borrow.Author.Needs.{needs}
 use Rattle.spelling.proofs.Stores.{stored-length}

@@ -1,3 +1,4 @@
+-- `answer_to`: a step by the link of tables and published rounds; a malformed line changes nothing.
 use Rattle.run_report.proofs.Played.{does-links, malformed-links}
 use borrow.Author.Needs.{needs}
 use Rattle.run_report.proofs.playing.answer_to.Statement.{statement}
@@ -13,7 +14,9 @@ enum-told : tie.Need-enum-told
 enum-told c = search needs
 
 returns : tie.Need-returns
-returns c = does-links _ _ (c .before .before .before .before .before .before .pre) _ _ (c .before .before .before .before .line .given .1) _ _ _ (c .step .ensures)
+returns c =
+    let known = c .before .before .before .before in
+    does-links _ _ (known .before .before .pre) _ _ (known .line .given .1) _ _ _ (c .step .ensures)
 
 returns-2 : tie.Need-returns-2
 returns-2 c = malformed-links _ _ (c .before .before .pre) _ (c .enum-told .given .1)

@@ -1,3 +1,4 @@
+-- `play`: the lines so far have their answers, and the tables stand for the run after them; reading goes on where the next line begins.
 use Prim.Native.Nat.{_-_}
 use mathlib.Core.Path.{sym, _∙_}
 use lib.ListN.{length}

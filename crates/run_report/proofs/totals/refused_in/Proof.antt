@@ -1,3 +1,4 @@
+-- `refused_in`: the refusals so far are counted, and those from here on are still to be.
 use native.Mathlib.Omega.{arith}
 use borrow.Author.Needs.{needs}
 use Prim.Native.Nat.{_-_}

@@ -1,8 +1,8 @@
--- A step that was done in a list of steps of the published rounds. This file is to be believed: the theorem of validity is stated by it.
+-- A step that was done in a list of steps. This file is to be believed: theorems say by it which start gave a value.
 use mathlib.Core.Path.{_≡_}
 use mathlib.Core.List.{List, _∷_}
 use Prim.Native.Nat.{ℕ}
 use Rattle.published.specs.Rounds.{Run, Limit, Step, step}
 
 -- the step a stands in the list l of steps from the run s, and is answered 0 there
 pub data Accepted (n : ℕ) (lim : Limit) (a : Step) : Run → List Step → Type 0 where
