@@ -15,7 +15,7 @@ from pathlib import Path
 
 TOP = Path(__file__).resolve().parent.parent
 CRATES = TOP / "crates"
-WITHOUT_FUNCTIONS = ("published", "kinds", "tables", "examples")
+WITHOUT_FUNCTIONS = ("common", "published", "kinds", "tables", "book", "spelling", "reports", "examples")
 faults = []
 
 
