@@ -15,8 +15,8 @@ end-inside : {l l′ : List ℕ} {next : ℕ} (w : List ℕ) → Put l 0 w next 
 end-inside w p = put-inside w p (omega arith)
 
 -- stated of any length: at 1,377,401 the array would be computed
-still-long : (n : ℕ) (l : List ℕ) → length l ≡ length {A = ℕ} (replicate n 0) → n ≡ length l
-still-long n l e = sym (e ∙ length-replicate {0} {A = ℕ} n 0)
+still-long : (n : ℕ) {m : ℕ} → m ≡ length {A = ℕ} (replicate n 0) → n ≡ m
+still-long n e = sym (e ∙ length-replicate {0} {A = ℕ} n 0)
 
 slice-aggregate-read-full : tie.Need-slice-aggregate-read-full
 slice-aggregate-read-full c = search needs
@@ -51,7 +51,7 @@ enum-known-number : tie.Need-enum-known-number
 enum-known-number c = search needs
 
 slice-aggregate-put-refusal : tie.Need-slice-aggregate-put-refusal
-slice-aggregate-put-refusal c = still-long 1377401 _ (room-length-kept (c .before .before .before .before .report .ensures))
+slice-aggregate-put-refusal c = still-long 1377401 (room-length-kept (c .before .before .before .before .report .ensures))
 
 put-refusal-requires : tie.Need-put-refusal-requires
 put-refusal-requires c κs = search needs
