@@ -37,6 +37,7 @@ pub(crate) fn play_text(text: &[u8], room: &mut [u8]) -> usize
         let played = play(ledger, &mut words, &mut tags, step);
         ledger = played.ledger;
         let count = played.count;
+        refused += refusal(played.number);
         next = store_ledger_line(
             room,
             next,
@@ -45,7 +46,6 @@ pub(crate) fn play_text(text: &[u8], room: &mut [u8]) -> usize
             played.handed,
             &tags[..count],
         );
-        refused += refusal(played.number);
     }
     store_end(room, next, ledger, lines, refused)
 }

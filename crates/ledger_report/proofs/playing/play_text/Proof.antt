@@ -105,43 +105,44 @@ loop-again c =
 play-requires : tie.Need-play-requires Inv-loop μ-loop
 play-requires c κs = search needs
 
+refusal-requires : tie.Need-refusal-requires Inv-loop μ-loop
+refusal-requires c κs = search needs
+
+add-refused-2 : tie.Need-add-refused-2 Inv-loop μ-loop
+add-refused-2 c =
+    let p = c .before .before in
+    let l = in-loop (played p) in
+    omega (arith, l .before .loop .inv .few, l .before .loop .inv .fewer, l .before .loop .inv .within, start l .pre .0, refusal-one (p .play .result .number) (c .refusal .result) (c .refusal .ensures))
+
 array-share-prefix-tags-2 : tie.Need-array-share-prefix-tags-2 Inv-loop μ-loop
-array-share-prefix-tags-2 c = count-inside _ _ _ _ _ _ _ (c .before .before .play .ensures)
+array-share-prefix-tags-2 c = count-inside _ _ _ _ _ _ _ (c .before .before .before .play .ensures)
 
 slice-aggregate-store-ledger-line-2 : tie.Need-slice-aggregate-store-ledger-line-2 Inv-loop μ-loop
-slice-aggregate-store-ledger-line-2 c = sym (length-take-le _ _ (count-inside _ _ _ _ _ _ _ (c .before .before .before .play .ensures)))
+slice-aggregate-store-ledger-line-2 c = sym (length-take-le _ _ (count-inside _ _ _ _ _ _ _ (c .before .before .before .before .play .ensures)))
 
 store-ledger-line-requires-2 : tie.Need-store-ledger-line-requires-2 Inv-loop μ-loop
 store-ledger-line-requires-2 c κs =
-    let p = c .before .before .before in
+    let p = c .before .before .before .before in
     let r = played p in
     let l = in-loop r in (
       front-few _ _ _ _ _ _ _ (p .play .ensures),
       does-room _ _ _ _ _ _ _ _ _ (l .before .loop .inv) (l .loop-test .taken) _ (r .before .before .line-end .ensures) _ (r .read-line .ensures) _ (p .before .before .before .before .line .given .1) _ _ _ _ (p .play .ensures) (start l .pre .1),
     )
 
-refusal-requires : tie.Need-refusal-requires Inv-loop μ-loop
-refusal-requires c κs = search needs
-
-add-refused-2 : tie.Need-add-refused-2 Inv-loop μ-loop
-add-refused-2 c =
-    let p = c .before .before .before .before .before .before .before in
-    let l = in-loop (played p) in
-    omega (arith, l .before .loop .inv .few, l .before .loop .inv .fewer, l .before .loop .inv .within, start l .pre .0, refusal-one (p .play .result .number) (c .refusal .result) (c .refusal .ensures))
-
 loop-less-2 : tie.Need-loop-less-2 Inv-loop μ-loop
 loop-less-2 c =
-    let r = played (c .before .before .before .before .before .before .before) in
+    let s = c .before .before in
+    let r = played (s .before .before .before .before .before) in
     let l = in-loop r in
     omega (arith, end-above _ _ (l .loop-test .taken) (r .before .before .line-end .ensures), l .loop-test .taken)
 
 loop-again-2 : tie.Need-loop-again-2 Inv-loop μ-loop
 loop-again-2 c =
-    let s = c .before .before .before in
-    let p = s .before .before .before .before in
+    let s = c .before .before in
+    let p = s .before .before .before .before .before in
     let r = played p in
     let l = in-loop r in
-    does-more _ _ _ _ _ _ _ _ _ (l .before .loop .inv) (l .loop-test .taken) _ (r .before .before .line-end .ensures) _ (r .read-line .ensures) _ (p .before .before .before .before .line .given .1) _ _ _ _ (p .play .ensures) _ (c .refusal .ensures) _ _ (s .store-ledger-line2 .ensures)
+    does-more _ _ _ _ _ _ _ _ _ (l .before .loop .inv) (l .loop-test .taken) _ (r .before .before .line-end .ensures) _ (r .read-line .ensures) _ (p .before .before .before .before .line .given .1) _ _ _ _ (p .play .ensures) _ (s .before .before .before .refusal .ensures) _ _ (s .store-ledger-line2 .ensures)
 
 store-end-requires : tie.Need-store-end-requires Inv-loop μ-loop
 store-end-requires c κs =
@@ -182,11 +183,11 @@ play-text-spec =
     loop-less
     loop-again
     play-requires
+    refusal-requires
+    add-refused-2
     array-share-prefix-tags-2
     slice-aggregate-store-ledger-line-2
     store-ledger-line-requires-2
-    refusal-requires
-    add-refused-2
     loop-less-2
     loop-again-2
     store-end-requires
