@@ -21,10 +21,10 @@ fn main() {
 fn play(text: &[u8]) {
     let mut room = [0u8; ROOM];
     match report(text, &mut room) {
-        Reported::Length(length) => print(&room[..length]),
+        Reported::Length(length) => written(io::write_all(STDOUT_FILENO, &room[..length])),
         Reported::Refused(number) => {
             let end = put_refusal(&mut room, 0, number);
-            print(&room[..end]);
+            written(io::write_all(STDOUT_FILENO, &room[..end]));
         }
     }
 }
@@ -43,8 +43,8 @@ fn ended() -> bool {
     false
 }
 
-fn print(report: &[u8]) {
-    if !io::write_all(STDOUT_FILENO, report) {
+fn written(whole: bool) {
+    if !whole {
         io::write_all(
             STDERR_FILENO,
             b"ledger_run: standard output cannot be written\n",

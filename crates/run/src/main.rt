@@ -24,10 +24,10 @@ fn run(input: &mut [u8], room: &mut [u8]) {
 
 fn play(text: &[u8], room: &mut [u8]) {
     match report(text, room) {
-        Reported::Length(length) => print(&room[..length]),
+        Reported::Length(length) => written(io::write_all(STDOUT_FILENO, &room[..length])),
         Reported::Refused(number) => {
             let end = put_refusal(room, 0, number);
-            print(&room[..end]);
+            written(io::write_all(STDOUT_FILENO, &room[..end]));
         }
     }
 }
@@ -43,8 +43,8 @@ fn ended() -> bool {
     false
 }
 
-fn print(report: &[u8]) {
-    if !io::write_all(STDOUT_FILENO, report) {
+fn written(whole: bool) {
+    if !whole {
         io::write_all(STDERR_FILENO, b"run: standard output cannot be written\n");
     }
 }

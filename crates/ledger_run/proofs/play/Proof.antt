@@ -29,13 +29,16 @@ enum-known-length c = search needs
 array-share-prefix-room : tie.Need-array-share-prefix-room
 array-share-prefix-room c = report-inside (c .before .before .before .report .ensures) _ (c .before .length .given .1)
 
-slice-aggregate-print : tie.Need-slice-aggregate-print
-slice-aggregate-print c =
+slice-aggregate-write-all : tie.Need-slice-aggregate-write-all
+slice-aggregate-write-all c =
     let m = c .before .before in
     sym (length-take-le _ _ (report-inside (m .before .before .report .ensures) _ (m .length .given .1)))
 
-print-requires : tie.Need-print-requires
-print-requires c κs = search needs
+write-all-requires : tie.Need-write-all-requires
+write-all-requires c κs = search needs
+
+written-requires : tie.Need-written-requires
+written-requires c κs = search needs
 
 enum-known-number : tie.Need-enum-known-number
 enum-known-number c = search needs
@@ -49,11 +52,14 @@ put-refusal-requires c κs = search needs
 array-share-prefix-room-2 : tie.Need-array-share-prefix-room-2
 array-share-prefix-room-2 c = search end-inside
 
-slice-aggregate-print-2 : tie.Need-slice-aggregate-print-2
-slice-aggregate-print-2 c = sym (length-take-le _ _ (search end-inside))
+slice-aggregate-write-all-2 : tie.Need-slice-aggregate-write-all-2
+slice-aggregate-write-all-2 c = sym (length-take-le _ _ (search end-inside))
 
-print-requires-2 : tie.Need-print-requires-2
-print-requires-2 c κs = search needs
+write-all-requires-2 : tie.Need-write-all-requires-2
+write-all-requires-2 c κs = search needs
+
+written-requires-2 : tie.Need-written-requires-2
+written-requires-2 c κs = search needs
 
 returns : tie.Need-returns
 returns c = search needs
@@ -68,13 +74,15 @@ play-spec =
     report-requires
     enum-known-length
     array-share-prefix-room
-    slice-aggregate-print
-    print-requires
+    slice-aggregate-write-all
+    write-all-requires
+    written-requires
     enum-known-number
     slice-aggregate-put-refusal
     put-refusal-requires
     array-share-prefix-room-2
-    slice-aggregate-print-2
-    print-requires-2
+    slice-aggregate-write-all-2
+    write-all-requires-2
+    written-requires-2
     returns
     returns-2)

@@ -20,18 +20,21 @@ report-requires c κs = search needs
 enum-known-length : tie.Need-enum-known-length
 enum-known-length c = search needs
 
-slice-reshare-prefix-print : tie.Need-slice-reshare-prefix-print
-slice-reshare-prefix-print c =
+slice-reshare-prefix-write-all : tie.Need-slice-reshare-prefix-write-all
+slice-reshare-prefix-write-all c =
     let m = c .before in
     report-inside (m .before .before .before .before .report .ensures) _ (m .length .given .1)
 
-slice-aggregate-print : tie.Need-slice-aggregate-print
-slice-aggregate-print c =
+slice-aggregate-write-all : tie.Need-slice-aggregate-write-all
+slice-aggregate-write-all c =
     let m = c .before .before in
     sym (length-take-le _ _ (report-inside (m .before .before .before .before .report .ensures) _ (m .length .given .1)))
 
-print-requires : tie.Need-print-requires
-print-requires c κs = search needs
+write-all-requires : tie.Need-write-all-requires
+write-all-requires c κs = search needs
+
+written-requires : tie.Need-written-requires
+written-requires c κs = search needs
 
 enum-known-number : tie.Need-enum-known-number
 enum-known-number c = search needs
@@ -39,14 +42,17 @@ enum-known-number c = search needs
 put-refusal-requires : tie.Need-put-refusal-requires
 put-refusal-requires c κs = search needs
 
-slice-reshare-prefix-print-2 : tie.Need-slice-reshare-prefix-print-2
-slice-reshare-prefix-print-2 c = search end-inside
+slice-reshare-prefix-write-all-2 : tie.Need-slice-reshare-prefix-write-all-2
+slice-reshare-prefix-write-all-2 c = search end-inside
 
-slice-aggregate-print-2 : tie.Need-slice-aggregate-print-2
-slice-aggregate-print-2 c = sym (length-take-le _ _ (search end-inside))
+slice-aggregate-write-all-2 : tie.Need-slice-aggregate-write-all-2
+slice-aggregate-write-all-2 c = sym (length-take-le _ _ (search end-inside))
 
-print-requires-2 : tie.Need-print-requires-2
-print-requires-2 c κs = search needs
+write-all-requires-2 : tie.Need-write-all-requires-2
+write-all-requires-2 c κs = search needs
+
+written-requires-2 : tie.Need-written-requires-2
+written-requires-2 c κs = search needs
 
 same-length : tie.Need-same-length
 same-length c = search needs
@@ -66,14 +72,16 @@ play-spec =
     (tie.spec
     report-requires
     enum-known-length
-    slice-reshare-prefix-print
-    slice-aggregate-print
-    print-requires
+    slice-reshare-prefix-write-all
+    slice-aggregate-write-all
+    write-all-requires
+    written-requires
     enum-known-number
     put-refusal-requires
-    slice-reshare-prefix-print-2
-    slice-aggregate-print-2
-    print-requires-2
+    slice-reshare-prefix-write-all-2
+    slice-aggregate-write-all-2
+    write-all-requires-2
+    written-requires-2
     same-length
     returns
     same-length-2
