@@ -17,8 +17,13 @@ import measure
 import programs
 
 HERE = pathlib.Path(__file__).resolve().parent / "steps"
-CRATES = ("published", "kinds", "bench", "tables", "rounds")
 PLAYS, STEPS = 200, 560
+
+
+def below(crate):
+    """The line of a crate in crates.txt and those of the crates that it leans on, which that line names."""
+    lines = {line.split(":")[0]: line for line in (programs.TOP / "crates.txt").read_text().splitlines()}
+    return {name: lines[name] for name in [crate, *lines[crate].partition(":")[2].split()]}
 
 
 def built(folder):
@@ -26,10 +31,10 @@ def built(folder):
     shutil.copytree(HERE / "drive", folder / "crates" / "drive")
     for file in list((folder / "crates" / "drive").rglob("*.in")):
         file.rename(file.with_suffix(""))
-    for crate in CRATES:
+    lines = below("rounds")
+    for crate in lines:
         shutil.copytree(programs.TOP / "crates" / crate, folder / "crates" / crate)
-    listed = [line for line in (programs.TOP / "crates.txt").read_text().splitlines() if line.split(":")[0] in CRATES]
-    (folder / "crates.txt").write_text("\n".join([*listed, "drive: rounds kinds io libc"]) + "\n")
+    (folder / "crates.txt").write_text("\n".join([*lines.values(), "drive: rounds reads tables kinds io libc"]) + "\n")
     if (programs.TOP / "target").exists():
         shutil.copytree(programs.TOP / "target", folder / "target", symlinks=True)
     ran = subprocess.run(["rt", "check", "drive"], cwd=folder, capture_output=True, text=True, check=False)
