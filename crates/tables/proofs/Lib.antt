@@ -15,4 +15,5 @@ pub mod Meeting
 pub mod Decisions
 pub mod Local
 pub mod ByValue
+pub mod Refusing
 pub mod Theorems
