@@ -144,3 +144,16 @@ stored-fitting {l = l} {at = at} {w = w} h p = rw (le-leb (at + length w) (lengt
 pub not-fitting : (l : List ℕ) (at : ℕ) (w : List ℕ) → length l < at + length w → Stored l at (fitting l at w) at l
 unfolding fits fitting
 not-fitting l at w h = rw (lt-leb (at + length w) (length l) h) (stored-nil l at)
+
+-- ---- what is measured first: n bytes, and whether the room has them
+
+module _ (l : List ℕ) (at n : ℕ) (w : List ℕ) (r : Bool) (is-n : n ≡ length w) (is-r : r ≡ leb (at + n) (length l)) where
+  pub measured-out : not r ≡ true → Stored l at (fitting l at w) at l
+  measured-out h = not-fitting l at w (short-measured at w (length l) n is-n (room-not {a = at + n} {b = length l} is-r h))
+
+  module _ (h : not r ≡ false) where
+    pub measured-in : at + length w ≤ length l
+    measured-in = room-measured at w (length l) n is-n (room-is {a = at + n} {b = length l} is-r h)
+
+    pub measured-stored : {next : ℕ} {l′ : List ℕ} → Stored l at w next l′ → Stored l at (fitting l at w) next l′
+    measured-stored s = stored-fitting measured-in s

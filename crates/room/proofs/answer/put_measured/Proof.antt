@@ -1,7 +1,6 @@
 -- `put_measured` meets its contract. With room what fits is both, without it nothing. Assumes nothing.
 use native.Mathlib.Omega.{arith}
-use Rattle.spelling.specs.Answers.{answerText}
-use Rattle.spelling.proofs.Stores.{room-is, room-not, short-measured, room-measured, not-fitting, stored-fitting}
+use Rattle.spelling.proofs.Stores.{measured-out, measured-in, measured-stored}
 use Rattle.spelling.proofs.Decimals.{number-short}
 use Rattle.spelling.proofs.Answers.{answer-measured}
 use borrow.Author.Needs.{needs}
@@ -27,27 +26,16 @@ same-length : tie.Need-same-length
 same-length c = search needs
 
 returns : tie.Need-returns
-returns c =
-    let n = c .before .before .before in
-    let m = answer-measured _ _ (n .before .number-length .ensures) (n .number-length2 .ensures) in
-    not-fitting _ _ (answerText _ _) (short-measured _ (answerText _ _) _ _ m (room-not (c .before .has-room .ensures) (c .if1 .taken)))
+returns c = search (measured-out, answer-measured)
 
 store-answer-text-requires : tie.Need-store-answer-text-requires
-store-answer-text-requires c κs =
-    let r = c .before .before in
-    let n = r .before .before in
-    let m = answer-measured _ _ (n .before .number-length .ensures) (n .number-length2 .ensures) in
-    room-measured _ (answerText _ _) _ _ m (room-is (r .has-room .ensures) (c .before .if1 .left))
+store-answer-text-requires c κs = search (measured-in, answer-measured)
 
 same-length-2 : tie.Need-same-length-2
 same-length-2 c = search needs
 
 returns-2 : tie.Need-returns-2
-returns-2 c =
-    let r = c .before .before .before .before .before in
-    let n = r .before .before in
-    let m = answer-measured _ _ (n .before .number-length .ensures) (n .number-length2 .ensures) in
-    stored-fitting (room-measured _ (answerText _ _) _ _ m (room-is (r .has-room .ensures) (c .before .before .before .before .if1 .left))) (c .before .before .store-answer-text .ensures)
+returns-2 c = search (measured-stored, answer-measured)
 
 pub put-measured-spec : {M : Type 1} → statement M
 put-measured-spec =

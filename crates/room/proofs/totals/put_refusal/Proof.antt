@@ -1,7 +1,6 @@
 -- `put_refusal` meets its contract. With room what fits is the line, without it nothing. Assumes nothing.
 use native.Mathlib.Omega.{arith}
-use Rattle.spelling.specs.Answers.{refusalText}
-use Rattle.spelling.proofs.Stores.{room-is, room-not, short-measured, room-measured, not-fitting, stored-fitting}
+use Rattle.spelling.proofs.Stores.{measured-out, measured-in, measured-stored}
 use Rattle.spelling.proofs.Decimals.{number-short}
 use Rattle.spelling.proofs.Answers.{refusal-measured}
 use borrow.Author.Needs.{needs}
@@ -21,24 +20,16 @@ same-length : tie.Need-same-length
 same-length c = search needs
 
 returns : tie.Need-returns
-returns c =
-    let m = refusal-measured _ (c .before .before .before .number-length .ensures) in
-    not-fitting _ _ (refusalText _) (short-measured _ (refusalText _) _ _ m (room-not (c .before .has-room .ensures) (c .if1 .taken)))
+returns c = search (measured-out, refusal-measured)
 
 store-refusal-requires : tie.Need-store-refusal-requires
-store-refusal-requires c κs =
-    let r = c .before .before in
-    let m = refusal-measured _ (r .before .before .number-length .ensures) in
-    room-measured _ (refusalText _) _ _ m (room-is (r .has-room .ensures) (c .before .if1 .left))
+store-refusal-requires c κs = search (measured-in, refusal-measured)
 
 same-length-2 : tie.Need-same-length-2
 same-length-2 c = search needs
 
 returns-2 : tie.Need-returns-2
-returns-2 c =
-    let r = c .before .before .before .before .before in
-    let m = refusal-measured _ (r .before .before .number-length .ensures) in
-    stored-fitting (room-measured _ (refusalText _) _ _ m (room-is (r .has-room .ensures) (c .before .before .before .before .if1 .left))) (c .before .before .store-refusal .ensures)
+returns-2 c = search (measured-stored, refusal-measured)
 
 pub put-refusal-spec : {M : Type 1} → statement M
 put-refusal-spec =

@@ -1,7 +1,6 @@
 -- `put_totals` meets its contract. With room what fits is the line, without it nothing. Assumes nothing.
 use native.Mathlib.Omega.{arith}
-use Rattle.spelling.specs.Answers.{totals}
-use Rattle.spelling.proofs.Stores.{room-is, room-not, short-measured, room-measured, not-fitting, stored-fitting}
+use Rattle.spelling.proofs.Stores.{measured-out, measured-in, measured-stored}
 use Rattle.spelling.proofs.Decimals.{number-short}
 use Rattle.spelling.proofs.Answers.{totals-measured}
 use borrow.Author.Needs.{needs}
@@ -27,27 +26,16 @@ same-length : tie.Need-same-length
 same-length c = search needs
 
 returns : tie.Need-returns
-returns c =
-    let n = c .before .before .before in
-    let m = totals-measured _ _ (n .before .number-length .ensures) (n .number-length2 .ensures) in
-    not-fitting _ _ (totals _ _) (short-measured _ (totals _ _) _ _ m (room-not (c .before .has-room .ensures) (c .if1 .taken)))
+returns c = search (measured-out, totals-measured)
 
 store-totals-requires : tie.Need-store-totals-requires
-store-totals-requires c κs =
-    let r = c .before .before in
-    let n = r .before .before in
-    let m = totals-measured _ _ (n .before .number-length .ensures) (n .number-length2 .ensures) in
-    room-measured _ (totals _ _) _ _ m (room-is (r .has-room .ensures) (c .before .if1 .left))
+store-totals-requires c κs = search (measured-in, totals-measured)
 
 same-length-2 : tie.Need-same-length-2
 same-length-2 c = search needs
 
 returns-2 : tie.Need-returns-2
-returns-2 c =
-    let r = c .before .before .before .before .before in
-    let n = r .before .before in
-    let m = totals-measured _ _ (n .before .number-length .ensures) (n .number-length2 .ensures) in
-    stored-fitting (room-measured _ (totals _ _) _ _ m (room-is (r .has-room .ensures) (c .before .before .before .before .if1 .left))) (c .before .before .store-totals .ensures)
+returns-2 c = search (measured-stored, totals-measured)
 
 pub put-totals-spec : {M : Type 1} → statement M
 put-totals-spec =

@@ -1,10 +1,9 @@
--- `rare_verb_at` meets its contract. The first key that stands there. Assumes nothing.
+-- `rare_verb_at` meets its contract: a law for each way, by the first key that stands there.
 use native.Mathlib.Omega.{arith}
-use mathlib.Core.Path.{refl, sym, _∙_}
 use denote.Ref.{now}
 use Rattle.spelling.specs.Numbers.{ascii}
-use Rattle.spelling.specs.Reading.{keyOf, rareVerbAt}
 use Rattle.spelling.proofs.Keys.{key-room}
+use Rattle.run_text.proofs.Verbs.{rare-start, rare-abstain, rare-leave, rare-fail, rare-none}
 use borrow.Author.Needs.{needs}
 use Rattle.run_text.proofs.reading.rare_verb_at.Statement.{statement}
 use Rattle.run_text.proofs.reading.rare_verb_at.Tie as tie
@@ -19,8 +18,7 @@ add-t11 : tie.Need-add-t11
 add-t11 c = omega (arith, key-room (ascii "start bench=") (now (c .before .before .before .before .args .text)) (c .before .before .before .before .args .at) (c .before .starts .ensures) (c .if1 .taken), c .before .before .before .before .fits .at .fits, c .before .before .before .before .good .0 .0)
 
 returns : tie.Need-returns
-unfolding rareVerbAt keyOf
-returns c = rw (sym (c .before .starts .ensures) ∙ c .if1 .taken) refl
+returns c = search rare-start
 
 slice-aggregate-starts-2 : tie.Need-slice-aggregate-starts-2
 slice-aggregate-starts-2 c = search needs
@@ -35,11 +33,7 @@ add-t16 c =
     omega (arith, key-room (ascii "abstain bench=") (now (start .args .text)) (start .args .at) (c .before .starts2 .ensures) (c .if2 .taken), start .fits .at .fits, start .good .0 .0)
 
 returns-2 : tie.Need-returns-2
-unfolding rareVerbAt keyOf
-returns-2 c = rw (
-  sym (c .before .before .before .before .starts .ensures) ∙ c .before .before .before .if1 .left,
-  sym (c .before .starts2 .ensures) ∙ c .if2 .taken,
-) refl
+returns-2 c = search rare-abstain
 
 slice-aggregate-starts-3 : tie.Need-slice-aggregate-starts-3
 slice-aggregate-starts-3 c = search needs
@@ -54,16 +48,7 @@ add-t21 c =
     omega (arith, key-room (ascii "leave bench=") (now (start .args .text)) (start .args .at) (c .before .starts3 .ensures) (c .if3 .taken), start .fits .at .fits, start .good .0 .0)
 
 returns-3 : tie.Need-returns-3
-unfolding rareVerbAt keyOf
-returns-3 c =
-    let way = c .before .before .before in
-    let at-if1 = way .before .before .before in
-    let at-starts = at-if1 .before in
-    rw (
-      sym (at-starts .starts .ensures) ∙ at-if1 .if1 .left,
-      sym (c .before .before .before .before .starts2 .ensures) ∙ c .before .before .before .if2 .left,
-      sym (c .before .starts3 .ensures) ∙ c .if3 .taken,
-    ) refl
+returns-3 c = search rare-leave
 
 slice-aggregate-starts-4 : tie.Need-slice-aggregate-starts-4
 slice-aggregate-starts-4 c = search needs
@@ -79,34 +64,15 @@ add-t26 c =
     omega (arith, key-room (ascii "fail bench=") (now (start .args .text)) (start .args .at) (c .before .starts4 .ensures) (c .if4 .taken), start .fits .at .fits, start .good .0 .0)
 
 returns-4 : tie.Need-returns-4
-unfolding rareVerbAt keyOf
 returns-4 c =
-    let way = c .before .before .before in
-    let at-if2 = way .before .before .before in
-    let at-starts2 = at-if2 .before in
-    let at-if1 = at-starts2 .before .before in
-    let at-starts = at-if1 .before in
-    rw (
-      sym (at-starts .starts .ensures) ∙ at-if1 .if1 .left,
-      sym (at-starts2 .starts2 .ensures) ∙ at-if2 .if2 .left,
-      sym (c .before .before .before .before .starts3 .ensures) ∙ c .before .before .before .if3 .left,
-      sym (c .before .starts4 .ensures) ∙ c .if4 .taken,
-    ) refl
+    let leave = c .before .before .before in
+    let abstain = leave .before .before .before in
+    let start = abstain .before .before .before in
+    rare-fail _ _ (start .before .starts .ensures) (start .if1 .left) (abstain .before .starts2 .ensures) (abstain .if2 .left)
+    (leave .before .starts3 .ensures) (leave .if3 .left) (c .before .starts4 .ensures) (c .if4 .taken)
 
 returns-5 : tie.Need-returns-5
-unfolding rareVerbAt keyOf
-returns-5 c =
-    let way = c .before .before .before in
-    let at-if2 = way .before .before .before in
-    let at-starts2 = at-if2 .before in
-    let at-if1 = at-starts2 .before .before in
-    let at-starts = at-if1 .before in
-    rw (
-      sym (at-starts .starts .ensures) ∙ at-if1 .if1 .left,
-      sym (at-starts2 .starts2 .ensures) ∙ at-if2 .if2 .left,
-      sym (c .before .before .before .before .starts3 .ensures) ∙ c .before .before .before .if3 .left,
-      sym (c .before .starts4 .ensures) ∙ c .if4 .left,
-    ) refl
+returns-5 c = search rare-none
 
 pub rare-verb-at-spec : {M : Type 1} → statement M
 rare-verb-at-spec =

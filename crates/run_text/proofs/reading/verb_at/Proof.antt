@@ -1,10 +1,9 @@
--- `verb_at` meets its contract. The first key that stands there. Assumes nothing.
+-- `verb_at` meets its contract: a law for each way, by the first key that stands there.
 use native.Mathlib.Omega.{arith}
-use mathlib.Core.Path.{refl, sym, _∙_}
 use denote.Ref.{now}
 use Rattle.spelling.specs.Numbers.{ascii}
-use Rattle.spelling.specs.Reading.{keyOf, verbAt}
 use Rattle.spelling.proofs.Keys.{key-room}
+use Rattle.run_text.proofs.Verbs.{verb-arrive, verb-turn, verb-notice, verb-rare}
 use borrow.Author.Needs.{needs}
 use Rattle.run_text.proofs.reading.verb_at.Statement.{statement}
 use Rattle.run_text.proofs.reading.verb_at.Tie as tie
@@ -19,8 +18,7 @@ add-t10 : tie.Need-add-t10
 add-t10 c = omega (arith, key-room (ascii "arrive bench=") (now (c .before .before .before .before .args .text)) (c .before .before .before .before .args .at) (c .before .starts .ensures) (c .if1 .taken), c .before .before .before .before .fits .at .fits, c .before .before .before .before .good .0 .0)
 
 returns : tie.Need-returns
-unfolding verbAt keyOf
-returns c = rw (sym (c .before .starts .ensures) ∙ c .if1 .taken) refl
+returns c = search verb-arrive
 
 slice-aggregate-starts-2 : tie.Need-slice-aggregate-starts-2
 slice-aggregate-starts-2 c = search needs
@@ -35,11 +33,7 @@ add-t15 c =
     omega (arith, key-room (ascii "turn bench=") (now (start .args .text)) (start .args .at) (c .before .starts2 .ensures) (c .if2 .taken), start .fits .at .fits, start .good .0 .0)
 
 returns-2 : tie.Need-returns-2
-unfolding verbAt keyOf
-returns-2 c = rw (
-  sym (c .before .before .before .before .starts .ensures) ∙ c .before .before .before .if1 .left,
-  sym (c .before .starts2 .ensures) ∙ c .if2 .taken,
-) refl
+returns-2 c = search verb-turn
 
 slice-aggregate-starts-3 : tie.Need-slice-aggregate-starts-3
 slice-aggregate-starts-3 c = search needs
@@ -54,31 +48,13 @@ add-t20 c =
     omega (arith, key-room (ascii "notice bench=") (now (start .args .text)) (start .args .at) (c .before .starts3 .ensures) (c .if3 .taken), start .fits .at .fits, start .good .0 .0)
 
 returns-3 : tie.Need-returns-3
-unfolding verbAt keyOf
-returns-3 c =
-    let way = c .before .before .before in
-    let at-if1 = way .before .before .before in
-    let at-starts = at-if1 .before in
-    rw (
-      sym (at-starts .starts .ensures) ∙ at-if1 .if1 .left,
-      sym (c .before .before .before .before .starts2 .ensures) ∙ c .before .before .before .if2 .left,
-      sym (c .before .starts3 .ensures) ∙ c .if3 .taken,
-    ) refl
+returns-3 c = search verb-notice
 
 rare-verb-at-requires : tie.Need-rare-verb-at-requires
 rare-verb-at-requires c κs = search needs
 
 returns-4 : tie.Need-returns-4
-unfolding verbAt keyOf
-returns-4 c =
-    let way = c .before .before .before .before in
-    let at-if1 = way .before .before .before in
-    let at-starts = at-if1 .before in
-    rw (
-      sym (at-starts .starts .ensures) ∙ at-if1 .if1 .left,
-      sym (c .before .before .before .before .before .starts2 .ensures) ∙ c .before .before .before .before .if2 .left,
-      sym (c .before .before .starts3 .ensures) ∙ c .before .if3 .left,
-    ) (c .rare-verb-at .ensures)
+returns-4 c = search verb-rare
 
 pub verb-at-spec : {M : Type 1} → statement M
 verb-at-spec =
