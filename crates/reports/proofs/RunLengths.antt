@@ -20,7 +20,7 @@ use Rattle.spelling.specs.declared.Said.{Said}
 use Rattle.spelling.specs.declared.Said.the-variants.{Does, Malformed}
 use Rattle.spelling.specs.Numbers.{digits}
 use Rattle.spelling.specs.Spelling.{stepText}
-use Rattle.spelling.specs.Storing.{lead, low}
+use Rattle.spelling.specs.Storing.{lead, four, low}
 use Rattle.spelling.specs.Lines.{linesOf}
 use Rattle.spelling.specs.Reading.{saidOf, readText}
 use Rattle.spelling.proofs.Places.{le-or-lt}
@@ -44,11 +44,11 @@ lead-grows q k =
     (le-or-lt (suc q) (suc k))
 
 digits-grow : (k : ℕ) → suc k < 100000 → length (digits (suc k)) + digitsUpto k ≤ digitsUpto (suc k)
-unfolding low digitsUpto
+unfolding low four digitsUpto
 digits-grow k h = rw (digits-low (suc k) h) (simp length-append (omega (arith, lead-grows 9 k, lead-grows 99 k, lead-grows 999 k, lead-grows 9999 k)))
 
 two-digits : (n : ℕ) → n < 100 → length (digits n) ≤ 2
-unfolding low
+unfolding low four
 two-digits n h = rw (digits-low n (omega arith))
     (simp (lead-none 10000 n (omega arith), lead-none 1000 n (omega arith), lead-none 100 n (omega arith), length-append)
     (⊎-elim (λ (g : 10 ≤ n). rw (lead-some 10 n g) (omega arith)) (λ (g : n < 10). rw (lead-none 10 n g) (omega arith)) (le-or-lt 10 n)))

@@ -5,7 +5,7 @@ ghost use Prim.Native.Nat.{_+_, _≤_, _<_};
 ghost use lib.ListN.{length};
 ghost use Rattle.spelling.specs.Numbers.{digits};
 ghost use Rattle.spelling.specs.Stored.{Stored, fitting};
-ghost use Rattle.spelling.specs.Storing.{lead, high, low};
+ghost use Rattle.spelling.specs.Storing.{lead, four, high, low};
 use crate::bytes;
 
 // How many digits a number has.
@@ -62,16 +62,24 @@ fn store_lead(room: &mut [u8], at: usize, n: u32, p: u32) -> usize
     at + 1
 }
 
+// Stores the digits of n at the place p and at the three below it.
+fn store_four(room: &mut [u8], at: usize, n: u32, p: u32) -> usize
+    requires { ⌜ (1000 ≤ p) × (at + length (four p n) ≤ length (now room)) ⌝ }
+    ensures { λ r. ⌜ Stored (now (room .entry)) at (four p n) r (now (room .exit)) ⌝ }
+{
+    let a = store_lead(room, at, n, p);
+    let b = store_lead(room, a, n, p / 10);
+    let c = store_lead(room, b, n, p / 100);
+    store_lead(room, c, n, p / 1000)
+}
+
 // Stores the digits of n above its last five.
 fn store_high(room: &mut [u8], at: usize, n: u32) -> usize
     requires { ⌜ at + length (high n) ≤ length (now room) ⌝ }
     ensures { λ r. ⌜ Stored (now (room .entry)) at (high n) r (now (room .exit)) ⌝ }
 {
-    let a = store_lead(room, at, n, 1000000000);
-    let b = store_lead(room, a, n, 100000000);
-    let c = store_lead(room, b, n, 10000000);
-    let d = store_lead(room, c, n, 1000000);
-    store_lead(room, d, n, 100000)
+    let a = store_four(room, at, n, 1000000000);
+    store_lead(room, a, n, 100000)
 }
 
 // Stores the last five digits of n, or all that it has.
@@ -79,12 +87,9 @@ fn store_low(room: &mut [u8], at: usize, n: u32) -> usize
     requires { ⌜ at + length (low n) ≤ length (now room) ⌝ }
     ensures { λ r. ⌜ Stored (now (room .entry)) at (low n) r (now (room .exit)) ⌝ }
 {
-    let a = store_lead(room, at, n, 10000);
-    let b = store_lead(room, a, n, 1000);
-    let c = store_lead(room, b, n, 100);
-    let d = store_lead(room, c, n, 10);
-    room[d] = 48 + (n % 10) as u8;
-    d + 1
+    let a = store_four(room, at, n, 10000);
+    room[a] = 48 + (n % 10) as u8;
+    a + 1
 }
 
 // Stores a number of one digit.

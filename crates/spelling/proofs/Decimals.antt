@@ -13,7 +13,7 @@ use Rattle.spelling.proofs.Places.{le-or-lt}
 use Rattle.spelling.proofs.Stores.{room-front, room-after, stored-then}
 use Rattle.spelling.specs.Numbers.{leads, digits}
 use Rattle.spelling.specs.Stored.{Stored}
-use Rattle.spelling.specs.Storing.{places, lead, high, low}
+use Rattle.spelling.specs.Storing.{places, lead, four, high, low}
 
 pub lead-none : (p n : ℕ) → n < p → lead p n ≡ []
 unfolding lead
@@ -34,21 +34,50 @@ leads-lead p ps n = split (leb p n) (λ e. rw e refl) (λ e. rw e refl)
 -- ---- the parts that the code stores
 
 pub high-low : (n : ℕ) → digits n ≡ high n ++ low n
-unfolding digits high low
+unfolding digits high low four
 high-low n = simp (leads-lead, leads-nil, append-assoc, append-nil)
 
 pub high-none : (n : ℕ) → n < 100000 → high n ≡ []
-unfolding high
+unfolding high four
 high-none n h = simp (lead-none 1000000000 n (omega arith), lead-none 100000000 n (omega arith), lead-none 10000000 n (omega arith), lead-none 1000000 n (omega arith), lead-none 100000 n (omega arith))
 
 pub digits-low : (n : ℕ) → n < 100000 → digits n ≡ low n
 digits-low n h = high-low n ∙ rw (high-none n h) refl
 
 pub digits-small : (n : ℕ) → n < 10 → digits n ≡ (48 + n) ∷ []
-unfolding low
+unfolding low four
 digits-small n h =
     let e : n % 10 ≡ n = omega arith in
     digits-low n (omega arith) ∙ simp (lead-none 10000 n (omega arith), lead-none 1000 n (omega arith), lead-none 100 n (omega arith), lead-none 10 n (omega arith), e)
+
+-- four in a row: the room there is for each, and all stored
+module _ (p n : ℕ) (l : List ℕ) (at : ℕ) (room : at + length (four p n) ≤ length l) where
+  pub four-first : at + length (lead p n) ≤ length l
+  unfolding four
+  four-first = room-front at (lead p n) (lead (p / 10) n ++ (lead (p / 100) n ++ lead (p / 1000) n)) room
+
+  module _ (a : ℕ) (l₁ : List ℕ) (s₁ : Stored l at (lead p n) a l₁) where
+    room₁ : a + length (lead (p / 10) n ++ (lead (p / 100) n ++ lead (p / 1000) n)) ≤ length l₁
+    unfolding four
+    room₁ = room-after (lead (p / 10) n ++ (lead (p / 100) n ++ lead (p / 1000) n)) s₁ room
+
+    pub four-second : a + length (lead (p / 10) n) ≤ length l₁
+    four-second = room-front a (lead (p / 10) n) (lead (p / 100) n ++ lead (p / 1000) n) room₁
+
+    module _ (b : ℕ) (l₂ : List ℕ) (s₂ : Stored l₁ a (lead (p / 10) n) b l₂) where
+      room₂ : b + length (lead (p / 100) n ++ lead (p / 1000) n) ≤ length l₂
+      room₂ = room-after (lead (p / 100) n ++ lead (p / 1000) n) s₂ room₁
+
+      pub four-third : b + length (lead (p / 100) n) ≤ length l₂
+      four-third = room-front b (lead (p / 100) n) (lead (p / 1000) n) room₂
+
+      module _ (c : ℕ) (l₃ : List ℕ) (s₃ : Stored l₂ b (lead (p / 100) n) c l₃) where
+        pub four-last : c + length (lead (p / 1000) n) ≤ length l₃
+        four-last = room-after (lead (p / 1000) n) s₃ room₂
+
+        pub four-stored : (d : ℕ) (l₄ : List ℕ) → Stored l₃ c (lead (p / 1000) n) d l₄ → Stored l at (four p n) d l₄
+        unfolding four
+        four-stored d l₄ s₄ = stored-then s₁ (stored-then s₂ (stored-then s₃ s₄))
 
 -- ---- one digit more
 
@@ -58,7 +87,7 @@ lead-same p n q m up down e =
     (λ (h : n < p). lead-none p n h ∙ sym (lead-none q m (down h))) (le-or-lt p n)
 
 pub digits-snoc : (v x : ℕ) → 0 < v → v < 10000 → x < 10 → digits (v * 10 + x) ≡ digits v ++ ((48 + x) ∷ [])
-unfolding low
+unfolding low four
 digits-snoc v x pos top hx =
     let n = v * 10 + x in
     let e4 : lead 10000 n ≡ lead 1000 v = lead-same 10000 n 1000 v (λ h. omega arith) (λ h. omega arith) (omega arith) in
@@ -96,11 +125,11 @@ unfolding lead
 lead-length p n = ⊎-elim (λ (h : p ≤ n). simp (le-leb p n h) (omega arith)) (λ (h : n < p). simp (lt-leb p n h) (omega arith)) (le-or-lt p n)
 
 pub low-length : (n : ℕ) → (1 ≤ length (low n)) × (length (low n) ≤ 5)
-unfolding low
+unfolding low four
 low-length n = simp length-append (omega (arith, lead-length 10000 n, lead-length 1000 n, lead-length 100 n, lead-length 10 n))
 
 pub high-length : (n : ℕ) → length (high n) ≤ 5
-unfolding high
+unfolding high four
 high-length n = simp length-append (omega (arith, lead-length 1000000000 n, lead-length 100000000 n, lead-length 10000000 n, lead-length 1000000 n, lead-length 100000 n))
 
 pub digits-length : (n : ℕ) → (1 ≤ length (digits n)) × (length (digits n) ≤ 10)

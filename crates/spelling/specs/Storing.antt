@@ -14,12 +14,16 @@ places = 1000000000 ∷ 100000000 ∷ 10000000 ∷ 1000000 ∷ 100000 ∷ 10000 
 unfoldable pub lead : ℕ → ℕ → List ℕ
 lead p n = cond (leb p n) ((48 + n / p % 10) ∷ []) []
 
+-- those at the place p and at the three below it
+unfoldable pub four : ℕ → ℕ → List ℕ
+four p n = lead p n ++ (lead (p / 10) n ++ (lead (p / 100) n ++ lead (p / 1000) n))
+
 -- the digits of n above its last five, and those
 unfoldable pub high : ℕ → List ℕ
-high n = lead 1000000000 n ++ (lead 100000000 n ++ (lead 10000000 n ++ (lead 1000000 n ++ lead 100000 n)))
+high n = four 1000000000 n ++ lead 100000 n
 
 unfoldable pub low : ℕ → List ℕ
-low n = lead 10000 n ++ (lead 1000 n ++ (lead 100 n ++ (lead 10 n ++ ((48 + n % 10) ∷ []))))
+low n = four 10000 n ++ ((48 + n % 10) ∷ [])
 
 -- what stands before a member that is spelled at a place of a world that begins at `from`
 unfoldable pub sepAt : ℕ → ℕ → List ℕ

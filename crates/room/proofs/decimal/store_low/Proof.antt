@@ -1,66 +1,17 @@
--- `store_low` meets its contract. Five digits in a row: what is stored, and the room that is left for the others. Assumes nothing.
-use Prim.Native.Nat.{ℕ, _+_, _%_, _≤_}
-use borrow.Author.Needs.{needs}
+-- `store_low` meets its contract: four digits, and the last one behind them.
 use native.Mathlib.Omega.{arith}
-use mathlib.Core.List.{List, [], _∷_, _++_}
-use lib.Dec.{lit<}
-use lib.ListN.{length}
-use Rattle.spelling.specs.Storing.{lead, low}
-use Rattle.spelling.proofs.Stores.{room-after, room-front, stored-length, stored-one, stored-then}
+use lib.Dec.{lit≤}
+use mathlib.Core.List.{[], _∷_}
+use Prim.Native.Nat.{_+_, _%_}
+use Rattle.spelling.specs.Storing.{four, low}
+use Rattle.spelling.proofs.Stores.{room-front, room-after, stored-one, stored-then}
+use borrow.Author.Needs.{needs}
 use Rattle.room.proofs.decimal.store_low.Statement.{statement}
 use Rattle.room.proofs.decimal.store_low.Tie as tie
 
--- what is still to be written after each call, and that there is room for it
-abbrev D₄ : ℕ → List ℕ
-D₄ n = (48 + n % 10) ∷ []
-
-abbrev D₃ : ℕ → List ℕ
-D₃ n = lead 10 n ++ D₄ n
-
-abbrev D₂ : ℕ → List ℕ
-D₂ n = lead 100 n ++ D₃ n
-
-abbrev D₁ : ℕ → List ℕ
-D₁ n = lead 1000 n ++ D₂ n
-
--- the number, as it stands at each place on the way
-abbrev n₁ : tie.After-store-lead → ℕ
-n₁ c = c .before .before .before .args .n
-
-abbrev n₂ : tie.After-store-lead2 → ℕ
-n₂ c = n₁ (c .before .before .before .before)
-
-abbrev n₃ : tie.After-store-lead3 → ℕ
-n₃ c = n₂ (c .before .before .before .before)
-
-abbrev n₄ : tie.After-store-lead4 → ℕ
-n₄ c = n₃ (c .before .before .before .before)
-
-R₁ : (c : tie.After-store-lead) → c .store-lead .result + length (D₁ (n₁ c)) ≤ length (c .store-lead .last .0)
+store-four-requires : tie.Need-store-four-requires
 unfolding low
-R₁ c = room-after (D₁ (c .before .before .before .args .n)) (c .store-lead .ensures) (c .before .before .before .pre)
-
-R₂ : (c : tie.After-store-lead2) → c .store-lead2 .result + length (D₂ (n₂ c)) ≤ length (c .store-lead2 .last .0)
-R₂ c = room-after (D₂ _) (c .store-lead2 .ensures) (R₁ (c .before .before .before .before))
-
-R₃ : (c : tie.After-store-lead3) → c .store-lead3 .result + length (D₃ (n₃ c)) ≤ length (c .store-lead3 .last .0)
-R₃ c = room-after (D₃ _) (c .store-lead3 .ensures) (R₂ (c .before .before .before .before))
-
-R₄ : (c : tie.After-store-lead4) → c .store-lead4 .result + 1 ≤ length (c .store-lead4 .last .0)
-R₄ c = room-after (D₄ _) (c .store-lead4 .ensures) (R₃ (c .before .before .before .before))
-
-store-lead-requires : tie.Need-store-lead-requires
-unfolding low
-store-lead-requires c κs = (lit< tt, room-front _ (lead 10000 _) (D₁ _) (c .before .before .pre))
-
-store-lead-requires-2 : tie.Need-store-lead-requires-2
-store-lead-requires-2 c κs = (lit< tt, room-front _ (lead 1000 _) (D₂ _) (R₁ (c .before .before .before)))
-
-store-lead-requires-3 : tie.Need-store-lead-requires-3
-store-lead-requires-3 c κs = (lit< tt, room-front _ (lead 100 _) (D₃ _) (R₂ (c .before .before .before)))
-
-store-lead-requires-4 : tie.Need-store-lead-requires-4
-store-lead-requires-4 c κs = (lit< tt, room-front _ (lead 10 _) (D₄ _) (R₃ (c .before .before .before)))
+store-four-requires c κs = (lit≤ tt, room-front _ (four 10000 _) ((48 + _ % 10) ∷ []) (c .before .before .pre))
 
 cast-room : tie.Need-cast-room
 cast-room c = search needs
@@ -69,40 +20,26 @@ add-room : tie.Need-add-room
 add-room c = search needs
 
 slice-write-room : tie.Need-slice-write-room
-slice-write-room c = omega (arith, R₄ (c .before .before))
-
-whole : tie.Need-returns
 unfolding low
-whole c =
-    let c₄ = c .before .before in
-    let c₃ = c₄ .before .before .before .before in
-    let c₂ = c₃ .before .before .before .before in
-    let c₁ = c₂ .before .before .before .before in
-    stored-then (c₁ .store-lead .ensures) (stored-then (c₂ .store-lead2 .ensures) (stored-then (c₃ .store-lead3 .ensures) (stored-then (c₄ .store-lead4 .ensures) (stored-one _ _ _))))
+slice-write-room c =
+    let on = c .before .before in
+    omega (arith, room-after ((48 + _ % 10) ∷ []) (on .store-four .ensures) (on .before .before .before .pre))
 
 add-result : tie.Need-add-result
-add-result c =
-    let way = c .before .before .before .before .before in
-    let way2 = way .before .before .before .before .before in
-    let way3 = way2 .before .before .before .before in
-    let there = way3 .before .before .before in
-    let start = there in
-    omega (arith, whole c .place, start .pre, start .good .0 .0)
+add-result c = omega (arith, slice-write-room c, c .before .before .before .before .before .good .0 .0)
 
 same-length : tie.Need-same-length
-same-length c = stored-length (whole c)
+same-length c = search needs
 
 returns : tie.Need-returns
-returns c = whole c
+unfolding low
+returns c = stored-then (c .before .before .store-four .ensures) (stored-one _ _ _)
 
 pub store-low-spec : {M : Type 1} → statement M
 store-low-spec =
     tie.close
     (tie.spec
-    store-lead-requires
-    store-lead-requires-2
-    store-lead-requires-3
-    store-lead-requires-4
+    store-four-requires
     cast-room
     add-room
     slice-write-room
