@@ -39,10 +39,11 @@ Without FILE, or where it is '-', the text is read from standard input; what com
 standard output. Every command knows --help and --version, and '--' before a FILE that begins with '-'.
 
 The first use of run and of ledger builds the program, which proves all that it stands on and takes
-some minutes. The Rattle kit has to be on PATH for that; draw and explain need Python alone.
+some minutes. The Rattle kit has to be on PATH for that; the other commands need Python alone.
 
-Status: 0 it was printed, whole; 1 a program could not be built or started; 2 wrong use; 3 the text
-was refused with 23; 4 something could not be read or written; 128 + n ended by signal n.
+Status: 0 it was printed, whole; 1 check found a malformed line; 2 wrong use; 3 the text was refused
+with 23; 4 something could not be read or written; 5 a program could not be built or started;
+128 + n ended by signal n.
 
 docs/RUN-TEXT.md has the form of run texts, docs/LEDGER-SCRIPT.md that of ledger scripts,
 docs/REFUSALS.md every refusal, docs/COMMAND.md this command in full.

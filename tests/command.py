@@ -20,7 +20,8 @@ VERSION = "funkenrille " + (programs.TOP / "VERSION").read_text()
 EXAMPLE = programs.TOP / "examples" / "01-alone.txt"
 PLAYERS = ("run", "ledger", "draw")
 NAMES = (*PLAYERS, "explain", "help")
-DONE, FOUND, WRONG_USE, TOO_LONG, NO_STREAM, NOT_BUILT = range(6)
+STATUSES = range(6)
+DONE, FOUND, WRONG_USE, TOO_LONG, NO_STREAM, NOT_BUILT = STATUSES
 count = 0
 
 
@@ -134,10 +135,10 @@ def stopped():
 def documented():
     """The table of docs/COMMAND.md, the man page and help have the same statuses."""
     table = (programs.TOP / "docs" / "COMMAND.md").read_text()
-    same("docs/COMMAND.md", re.findall(r"^\| (\d) \|", table, re.M), [str(status) for status in range(5)])
+    same("docs/COMMAND.md", re.findall(r"^\| (\d) \|", table, re.M), [str(status) for status in STATUSES])
     manual = (programs.TOP / "docs" / "funkenrille.1.in").read_text()
-    same("the man page", re.findall(r"^\.B (\d)$", manual, re.M), [str(status) for status in range(5)])
-    same("help", re.findall(r"[:;]\s+(\d) ", call("help").partition("Status")[2]), [str(status) for status in range(5)])
+    same("the man page", re.findall(r"^\.B (\d)$", manual, re.M), [str(status) for status in STATUSES])
+    same("help", re.findall(r"[:;]\s+(\d) ", call("help").partition("Status")[2]), [str(status) for status in STATUSES])
 
 
 def main():

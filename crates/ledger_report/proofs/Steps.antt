@@ -13,7 +13,6 @@ use Rattle.book.specs.Book.{Book, withRow, answer, after, step}
 use Rattle.ledger.specs.Seen.{bookOf}
 use Rattle.ledger.specs.Promises.{movesHeld, Tells}
 use Rattle.book.proofs.Outcomes.{step-ind}
-use Rattle.spelling.specs.declared.LedgerStep.the-variants as does
 
 after-stays : (b : Book) (s : book.Step) → (eqb (after 16 b s .number) 0 && movesHeld s) ≡ false → after 16 b s .book .held ≡ b .held
 unfolding after answer movesHeld withRow

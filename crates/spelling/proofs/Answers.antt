@@ -2,15 +2,14 @@
 use Prim.Native.Nat.{ℕ, _+_, _≤_}
 use native.Mathlib.Omega.{arith}
 use mathlib.Core.Bool.{Bool, true}
-use mathlib.Core.List.{List, [], _∷_, _++_}
+use mathlib.Core.List.{[], _∷_}
 use mathlib.Core.Path.{_≡_, refl}
 use lib.Dec.{leb, eqb}
 use lib.ListN.{length, length-append}
 use Rattle.common.proofs.Tests.{split}
 use Rattle.spelling.specs.Numbers.{ascii, digits, leads}
 use Rattle.spelling.specs.Answers.{answerText, totals, refusalOf, refusalText}
-use Rattle.spelling.specs.Stored.{Stored}
-use Rattle.spelling.proofs.Stores.{room-yes, stored-then}
+use Rattle.spelling.proofs.Stores.{room-yes}
 use Rattle.spelling.proofs.Decimals.{digits-length}
 
 -- ---- the front of an answer's line

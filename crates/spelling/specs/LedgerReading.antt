@@ -8,7 +8,6 @@ use Rattle.spelling.specs.declared.Found.{Found}
 use Rattle.spelling.specs.declared.Found.the-variants.{Got, Nothing}
 use Rattle.spelling.specs.Numbers.{ascii}
 use Rattle.spelling.specs.Fields.{isPrefix, digitAt, fieldAt, on}
-use Rattle.book.specs.Book as book
 use Rattle.spelling.specs.declared.LedgerStep.the-variants.{Join, Sweep, Close, End, HandOut}
 use Rattle.spelling.specs.declared.LedgerSaid.{LedgerSaid}
 use Rattle.spelling.specs.declared.LedgerSaid.the-variants.{Does, Malformed}

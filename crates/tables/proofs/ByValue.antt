@@ -1,7 +1,7 @@
 -- A bench by value and the tables are one thing: what `Bench::take` and `Bench::notice` promise is what an arrive and a notice that are done
 -- leave of the bench's row. By cases on the checks. Assumes nothing.
 use mathlib.Core.Path.{_≡_, refl, sym, ap, _∙_}
-use mathlib.Core.Bool.{Bool, true, false, cond, _&&_}
+use mathlib.Core.Bool.{true, _&&_}
 use mathlib.Core.List.{List}
 use Prim.Native.Nat.{ℕ, _-_}
 use native.Mathlib.Omega.{arith}
@@ -16,7 +16,7 @@ use Rattle.bench.specs.declared.Waiting.{Waiting}
 use Rattle.bench.specs.declared.Waiting.the-variants.{Next, Nothing}
 use Rattle.bench.specs.Changes.{takeOf, takeFrom, noticeOf, noticeFrom}
 use Rattle.tables.specs.Rows.{rows}
-use Rattle.tables.specs.Steps.{Act, Tables, refused, acted, stored, takeNext, nextOn, arriveAt, noticeAt, atBenches, tableStep}
+use Rattle.tables.specs.Steps.{Act, stored, takeNext, nextOn, arriveAt, noticeAt, atBenches, tableStep}
 
 -- of a bench 1 to N the method takes, and notices, at its place
 take-at : (N f : ℕ) (x : Bench) (m : Message) → isBench N f ≡ true → takeFrom N x f m ≡ takeOf x (f - 1) m

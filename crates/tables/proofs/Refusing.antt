@@ -1,5 +1,5 @@
 -- A step that is not answered 0 leaves every word of both tables, whatever tables are handed in: check by check. Assumes nothing.
-use mathlib.Core.Path.{_≡_, refl, sym, _∙_}
+use mathlib.Core.Path.{_≡_, refl, _∙_}
 use mathlib.Core.Bool.{Bool, true, false, cond, _&&_}
 use lib.Dec.{eqb, ltb}
 use Rattle.common.specs.Places.{has}
