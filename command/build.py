@@ -13,7 +13,7 @@ from contextlib import contextmanager
 from status import NOT_BUILT, Failure
 from streams import MESSAGES, say, tell, why
 
-EXPECTED = {"run": 160, "ledger_run": 130}  # seconds of a first build on two idle cores
+EXPECTED = {"run": 200, "ledger_run": 130}  # seconds of a first build on two idle cores
 SHOWN = 20  # lines of what rt said, where it could not build
 
 
