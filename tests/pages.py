@@ -8,6 +8,7 @@
 - CHANGELOG.md begins with the version that the file VERSION has.
 """
 
+import os
 import platform
 import re
 import shlex
@@ -52,16 +53,21 @@ def cells(text, head):
 
 
 def quoted():
-    """Every command that a page quotes whole."""
+    """Every command that a page quotes whole, options included; what one writes goes to a folder that has the examples."""
     commands = set()
     for path in PAGES:
-        for words in re.findall(r"\./funkenrille ((?:run|ledger|draw|explain|help)\b[^`\n|\[]*)", path.read_text(encoding="utf-8")):
+        for words in re.findall(r"\./funkenrille ((?:run|ledger|check|draw|page|explain|help)\b[^`\n|\[]*)", path.read_text(encoding="utf-8")):
             command = words.partition(">")[0].split(";")[0].strip()
-            if re.fullmatch(r"(?:run|ledger|draw) \S+\.txt|explain [0-9 ]+|help(?: \w+)?", command) and "two.txt" not in command:
+            if re.fullmatch(r"(?:run|ledger|check|draw|page)(?: --?\S+(?: \S+)?)*? examples/\S+\.txt(?: -o \S+)?|explain [0-9 ]+|help(?: \w+)?", command):
                 commands.add(command)
-    for command in sorted(commands):
-        ran = subprocess.run([TOP / "funkenrille", *shlex.split(command)], cwd=TOP, stdin=subprocess.DEVNULL, capture_output=True, check=False)
-        same(f"./funkenrille {command}", (ran.returncode, ran.stderr), (0, b""))
+    for name in ("run", "ledger", "check", "draw", "page", "explain"):
+        if not any(command.split()[0] == name for command in commands):
+            programs.stop(f"no page quotes a whole './funkenrille {name}'")
+    with tempfile.TemporaryDirectory() as folder:
+        os.symlink(TOP / "examples", os.path.join(folder, "examples"))
+        for command in sorted(commands):
+            ran = subprocess.run([TOP / "funkenrille", *shlex.split(command)], cwd=folder, stdin=subprocess.DEVNULL, capture_output=True, check=False)
+            same(f"./funkenrille {command}", (ran.returncode, ran.stderr), (0, b""))
     return len(commands)
 
 

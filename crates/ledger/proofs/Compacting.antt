@@ -16,20 +16,20 @@ use Rattle.ledger.specs.declared.words.Part.{Part}
 use Rattle.ledger.specs.declared.words.Part.the-variants.{Of, From}
 use Rattle.kinds.specs.declared.BenchNo.{BenchNo}
 use Rattle.kinds.specs.declared.SlotNo.{SlotNo}
-use Rattle.ledger.specs.Words.{within, TakesOut}
+use Rattle.ledger.specs.Words.{isOf, TakesOut}
 use Rattle.book.proofs.Only.{snoc-yes, snoc-no, only-map, only-rest}
 use Rattle.ledger.proofs.Laid.{laid-more, laid-past, laid-front, laid-rest}
 
 -- ---- whether a word is in a part
 
 module _ (w : ℕ) (p : Part) where
-  pub in-slot : (k : SlotNo) (t : Bool) → p ≡ Of k → t ≡ eqb (sweepIs w .slot) (k .0) → t ≡ within p (sweepIs w)
+  pub in-slot : (k : SlotNo) (t : Bool) → p ≡ Of k → t ≡ eqb (sweepIs w .slot) (k .0) → t ≡ isOf p (sweepIs w)
   in-slot k t is e = rw (is, e)
 
-  pub in-other : (s : BenchNo) (e : SlotNo) (x : ℕ) → p ≡ From s e → x ≡ sweepIs w .sender → (x ≡ s .0 → ⊥) → false ≡ within p (sweepIs w)
+  pub in-other : (s : BenchNo) (e : SlotNo) (x : ℕ) → p ≡ From s e → x ≡ sweepIs w .sender → (x ≡ s .0 → ⊥) → false ≡ isOf p (sweepIs w)
   in-other s e x is q ne = rw (is, ← q, ne-eqb x (s .0) ne)
 
-  pub in-from : (s : BenchNo) (e : SlotNo) (x y : ℕ) → p ≡ From s e → x ≡ sweepIs w .sender → x ≡ s .0 → y ≡ sweepIs w .slot → leb (e .0) y ≡ within p (sweepIs w)
+  pub in-from : (s : BenchNo) (e : SlotNo) (x y : ℕ) → p ≡ From s e → x ≡ sweepIs w .sender → x ≡ s .0 → y ≡ sweepIs w .slot → leb (e .0) y ≡ isOf p (sweepIs w)
   in-from s e x y is q same r = rw (is, ← q, ← r, eq-eqb x (s .0) same)
 
 -- ---- the pass

@@ -12,9 +12,9 @@ use Rattle.book.specs.Book.{Sweep, only, Row, Book}
 use Rattle.ledger.specs.Seen.{heldIn}
 
 -- the sweeps of a part
-abbrev pub within : Part → Sweep → Bool
-within (Of k) w = eqb (w .slot) (k .0)
-within (From s e) w = eqb (w .sender) (s .0) && leb (e .0) (w .slot)
+abbrev pub isOf : Part → Sweep → Bool
+isOf (Of k) w = eqb (w .slot) (k .0)
+isOf (From s e) w = eqb (w .sender) (s .0) && leb (e .0) (w .slot)
 
 -- none of the sweeps is of slot k
 abbrev pub NoneOf : ℕ → List Sweep → Type 0

@@ -6,7 +6,7 @@ ghost use lib.ListN.{length};
 ghost use lib.Dec.{eqb};
 ghost use Rattle.book.specs.Book.{only};
 ghost use Rattle.ledger.specs.Seen.{sweepIs, heldIn};
-ghost use Rattle.ledger.specs.Words.{within, NoneOf, TakesOut};
+ghost use Rattle.ledger.specs.Words.{isOf, NoneOf, TakesOut};
 use kinds::BenchNo;
 use kinds::SlotNo;
 
@@ -49,7 +49,7 @@ pub(crate) fn is_of(w: u64, slot: SlotNo) -> bool
 }
 
 fn is_in(w: u64, part: Part) -> bool
-    ensures { λ r. ⌜ r ≡ within part (sweepIs w) ⌝ }
+    ensures { λ r. ⌜ r ≡ isOf part (sweepIs w) ⌝ }
 {
     match part {
         Part::Of(slot) => is_of(w, slot),
@@ -89,8 +89,8 @@ pub(crate) fn skipped(room: &[u64], held: usize, slot: SlotNo) -> usize
 // Takes a part out of the first `held` words, of which none before `from` is of it: what is left moves to the front, in order, and the
 // words past it stay. How many are left.
 pub(crate) fn take_out(room: &mut [u64], from: usize, held: usize, part: Part) -> usize
-    requires { ⌜ (from ≤ held) × (held ≤ length (now room)) × (only (within part) (heldIn from (now room)) ≡ []) ⌝ }
-    ensures { λ r. ⌜ TakesOut (within part) held (now (room .entry)) r (now (room .exit)) ⌝ }
+    requires { ⌜ (from ≤ held) × (held ≤ length (now room)) × (only (isOf part) (heldIn from (now room)) ≡ []) ⌝ }
+    ensures { λ r. ⌜ TakesOut (isOf part) held (now (room .entry)) r (now (room .exit)) ⌝ }
 {
     let mut k = from;
     let mut i = from;
