@@ -1,17 +1,29 @@
--- One law for each way through what a bench asks of a member, and one step of the least value. Assumes nothing.
+-- A visit of the benches, one law for each way through what a bench asks of a member, and one step of the least value. Assumes nothing.
 use mathlib.Core.Path.{_≡_, refl, sym, _∙_}
 use mathlib.Core.Bool.{Bool, true, false, not}
 use mathlib.Core.List.{List}
-use Prim.Native.Nat.{ℕ, _+_, min}
+use Prim.Native.Nat.{ℕ, _+_, _<_, _≤_, min}
 use native.Mathlib.Numerals.{add-one}
 use lib.Dec.{eqb}
 use lib.ListN.{getD}
 use lib.Bits.{bitAnd}
 use borrow.Author.Tests.{not-true, not-false, eq-eqb, ne-eqb}
-use Rattle.common.specs.Places.{has}
+use Rattle.common.specs.Places.{has, some}
+use Rattle.common.proofs.Places.{some-found, some-none}
 use Rattle.bench.specs.Turns.{awaitedAt, differs, forbidsBy, forbidsAt, least}
 use Rattle.bench.specs.declared.Bench.{Bench}
 use Rattle.bench.specs.declared.Heard.{Heard}
+
+-- ---- a visit of the places below m, which are n
+
+module _ (p : ℕ → Bool) (m n : ℕ) (is-m : m ≡ n) where
+  pub found-among : (k : ℕ) (q : Bool) → k < m → q ≡ p k → q ≡ true → true ≡ some p n
+  found-among k q h e t = rw (← is-m) (some-found p k m q h e t)
+
+  pub none-among : (k : ℕ) → k ≤ m → m ≤ k → some p k ≡ false → false ≡ some p n
+  none-among k a b e = rw (← is-m) (some-none p k m a b e)
+
+-- ---- what a bench asks of a member
 
 module _ (b : Bench) (h : Heard) (k : ℕ) (m : Bool) (is-m : m ≡ has (b .world) k) where
   pub awaited-stranger : not m ≡ true → false ≡ awaitedAt b h k

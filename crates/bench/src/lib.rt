@@ -6,10 +6,24 @@ mod turns;
 
 use kinds::AnswerNo;
 use kinds::Message;
+use kinds::PLACES;
 use kinds::RoundNo;
 use kinds::SlotNo;
 
-// state: 0 fresh, 1 running, 2 decided, 3 abstained, 4 left, 5 and above failed.
+// The states of a bench. A number above FAILED is read as failed.
+pub const FRESH: u32 = 0;
+
+pub const RUNNING: u32 = 1;
+
+pub const DECIDED: u32 = 2;
+
+pub const ABSTAINED: u32 = 3;
+
+pub const LEFT: u32 = 4;
+
+pub const FAILED: u32 = 5;
+
+// state: one of the six above.
 // Sets of benches hold bench i as bit i - 1: `world`, `outs` (whose OUT it has taken) and `noticed`.
 // sent: the last round sent, or 0. silent: 1 once it has sent OUT. chose: 1 once it has decided on `value`.
 // taken: how many round messages it has taken of each bench, its own included.
@@ -23,14 +37,14 @@ pub struct Bench {
     pub sent: u32,
     pub silent: u32,
     pub chose: u32,
-    pub taken: [u32; 16],
+    pub taken: [u32; PLACES],
 }
 
 // What a bench has heard of its round: from whom, with which value and world.
 pub struct Heard {
     pub set: u32,
-    pub values: [u32; 16],
-    pub worlds: [u32; 16],
+    pub values: [u32; PLACES],
+    pub worlds: [u32; PLACES],
 }
 
 // The least value heard, and who was heard.

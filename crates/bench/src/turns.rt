@@ -2,44 +2,51 @@
 
 ghost use mathlib.Core.Path.{_≡_};
 ghost use Prim.Native.Nat.{_<_};
+ghost use Rattle.kinds.specs.Sizes.{benchesOf, roundsOf, depth};
 ghost use Rattle.bench.specs.Turns.{awaitedAt, awaitsOf, forbidsBy, forbidsOf, gatherOf, refuses, concludes, goOnOf, turnOf};
 use crate::Answer;
 use crate::Bench;
+use crate::DECIDED;
 use crate::Gathered;
 use crate::Heard;
+use crate::RUNNING;
 use crate::Turned;
 use kinds::AnswerNo;
 use kinds::Message;
 use kinds::RoundMessage;
 use kinds::RoundNo;
+use kinds::Size;
 use kinds::SlotNo;
+use sets::benches_of;
 use sets::has;
+use sets::rounds_of;
 
 impl Bench {
     // The bench looks at each member of its world. Where it refuses, the bench is handed back as it was.
-    pub fn turn(self, h: Heard) -> Turned
-        ensures { λ r. ⌜ r ≡ turnOf 16 96 self h ⌝ }
+    pub fn turn(self, h: Heard, size: Size) -> Turned
+        ensures { λ r. ⌜ r ≡ turnOf (benchesOf size) (roundsOf size) self h ⌝ }
     {
-        if self.state != 1 {
+        if self.state != RUNNING {
             return self.refused(3);
         }
-        if self.awaits(h) {
+        if self.awaits(h, size) {
             return self.refused(11);
         }
-        if !self.forbids(h) {
+        if !self.forbids(h, size) {
             return self.concluded();
         }
-        if 96 <= self.round.0 {
+        if rounds_of(size) <= self.round.0 {
             return self.refused(12);
         }
-        self.go_on(h)
+        self.go_on(h, size)
     }
 
     // The first visit: whether some member is awaited.
-    fn awaits(self, h: Heard) -> bool
-        ensures { λ r. ⌜ r ≡ awaitsOf 16 self h ⌝ }
+    fn awaits(self, h: Heard, size: Size) -> bool
+        ensures { λ r. ⌜ r ≡ awaitsOf (benchesOf size) self h ⌝ }
     {
-        for k in 0..16usize {
+        let n = benches_of(size) as usize;
+        for k in 0..n {
             if self.awaited_at(h, k) {
                 return true;
             }
@@ -48,10 +55,11 @@ impl Bench {
     }
 
     // The second visit: whether some member forbids a decision.
-    fn forbids(self, h: Heard) -> bool
-        ensures { λ r. ⌜ r ≡ forbidsOf 16 self h ⌝ }
+    fn forbids(self, h: Heard, size: Size) -> bool
+        ensures { λ r. ⌜ r ≡ forbidsOf (benchesOf size) self h ⌝ }
     {
-        for k in 0..16usize {
+        let n = benches_of(size) as usize;
+        for k in 0..n {
             if self.forbids_at(k, has(h.set, k), h.values[k], h.worlds[k]) {
                 return true;
             }
@@ -60,12 +68,13 @@ impl Bench {
     }
 
     // The third visit: the least value heard from a member, and the members heard.
-    fn gather(self, h: Heard) -> Gathered
-        ensures { λ r. ⌜ r ≡ gatherOf 16 self h ⌝ }
+    fn gather(self, h: Heard, size: Size) -> Gathered
+        ensures { λ r. ⌜ r ≡ gatherOf (benchesOf size) self h ⌝ }
     {
         let both = self.world & h.set;
         let mut value = self.value.0;
-        for k in 0..16usize {
+        let n = benches_of(size) as usize;
+        for k in 0..n {
             if has(both, k) {
                 let v = h.values[k];
                 if v < value {
@@ -127,7 +136,7 @@ impl Bench {
     {
         let value = self.value;
         let mut b = self;
-        b.state = 2;
+        b.state = DECIDED;
         b.chose = 1;
         Turned {
             bench: b,
@@ -136,15 +145,15 @@ impl Bench {
     }
 
     // The bench is in the next round, with the least value heard and the members heard, and has that round's message to send.
-    fn go_on(self, h: Heard) -> Turned
-        requires { ⌜ self .round .0 < 96 ⌝ }
-        ensures { λ r. ⌜ r ≡ goOnOf 16 self h ⌝ }
+    fn go_on(self, h: Heard, size: Size) -> Turned
+        requires { ⌜ self .round .0 < depth ⌝ }
+        ensures { λ r. ⌜ r ≡ goOnOf (benchesOf size) self h ⌝ }
     {
-        let g = self.gather(h);
+        let g = self.gather(h, size);
         let round = RoundNo(self.round.0 + 1);
         let value = g.value;
         let mut b = self;
-        b.state = 1;
+        b.state = RUNNING;
         b.round = round;
         b.value = value;
         b.world = g.world;

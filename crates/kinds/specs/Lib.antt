@@ -1,1 +1,2 @@
 pub mod Stand
+pub mod Sizes

@@ -1,8 +1,18 @@
-// The kinds of number that the rounds and the ledger speak of, the messages of a bench, and a step as a caller hands it in.
-// specs/Stand.antt says which message and which step of `published` each stands for. There are no functions here: a number is
-// checked where it is used, so each kind holds any u32.
+// The kinds of number that the rounds and the ledger speak of, the messages of a bench, a step as a caller hands it in, and how large a run is.
+// specs/Stand.antt says which message and which step of `published` each stands for, specs/Sizes.antt the numbers of each size. There are no
+// functions here: a number is checked where it is used, so each kind holds any u32.
 
-// A bench or a sender; those of a run are 1 to 16.
+// How many benches a run has and how many rounds, or how many senders a ledger. Whoever needs a limit takes a size, so that no limit can be wrong.
+pub enum Size {
+    Sixteen,
+}
+
+// What tables have room for, whatever the size: a place for each bench or sender, and the rounds of a log.
+pub const PLACES: usize = 16;
+
+pub const DEPTH: usize = 96;
+
+// A bench or a sender; those of a run are 1 to as many as its size says.
 pub struct BenchNo(pub u32);
 
 // A slot, which is also what a bench proposes and decides.

@@ -5,6 +5,7 @@ use mathlib.Core.List.{List, []}
 use Prim.Native.Nat.{ℕ, _<_, _≤_}
 use lib.ListN.{getD}
 use Rattle.common.specs.Places.{has}
+use Rattle.kinds.specs.Sizes.{depth}
 use Rattle.tables.specs.Steps.{lacksAt, lackedAt}
 use borrow.Author.Tests.{eq-eqb, ne-eqb, lt-ltb, le-ltb}
 
@@ -30,10 +31,10 @@ module _ (t : List (List ℕ)) (w j : ℕ) where
 -- ---- a bench that ever started, with a world that lacks bench k + 1
 
 module _ (t l : List (List ℕ)) (k j : ℕ) where
-  pub lacked-started : (q : Bool) → 0 < word t j 6 → q ≡ has (word l j 96) k → not q ≡ lackedAt 96 t l k j
+  pub lacked-started : (q : Bool) → 0 < word t j 6 → q ≡ has (word l j depth) k → not q ≡ lackedAt t l k j
   unfolding lackedAt
   lacked-started q h e = rw (lt-ltb 0 (word t j 6) h, e) refl
 
-  pub lacked-never : word t j 6 ≤ 0 → false ≡ lackedAt 96 t l k j
+  pub lacked-never : word t j 6 ≤ 0 → false ≡ lackedAt t l k j
   unfolding lackedAt
   lacked-never h = rw (le-ltb 0 (word t j 6) h) refl

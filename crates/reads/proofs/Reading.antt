@@ -9,7 +9,8 @@ use native.Mathlib.Omega.{arith}
 use lib.Dec.{eqb}
 use borrow.Author.Tests.{eq-eqb, ne-eqb, not-true, not-false}
 use Rattle.common.specs.Benches.{isBench}
-use Rattle.sets.proofs.Numbers.{bench-first, place-some}
+use Rattle.sets.proofs.Numbers.{bench-first, place-next}
+use Rattle.kinds.specs.Sizes.{places}
 use Rattle.tables.specs.Rows.{rows, logs, ofRow}
 use Rattle.tables.specs.Runs.{lineOf, stateOf, decisionOf, benchOf, runBy, runOf}
 use Rattle.reads.specs.declared.Decision.the-variants.{None, Chosen}
@@ -17,7 +18,7 @@ use Rattle.reads.specs.Decisions.{decisionIs}
 use Rattle.reads.specs.Reads.{stateWord, sentWord, decisionAt}
 use Rattle.common.specs.Places.{placeOf}
 
-module _ (t : List (List ℕ)) (b : ℕ) (q : Bool) (is-q : q ≡ isBench 16 b) where
+module _ (t : List (List ℕ)) (b : ℕ) (q : Bool) (is-q : q ≡ isBench places b) where
   module _ (unknown : not q ≡ true) where
     pub no-state : 0 ≡ stateWord t b
     unfolding stateWord
@@ -31,9 +32,9 @@ module _ (t : List (List ℕ)) (b : ℕ) (q : Bool) (is-q : q ≡ isBench 16 b) 
     unfolding decisionIs decisionAt
     no-decision = rw (sym is-q ∙ not-true q unknown) refl
 
-  module _ (known : not q ≡ false) (p : ℕ) (is-p : p ≡ placeOf 16 b) where
+  module _ (known : not q ≡ false) (p : ℕ) (is-p : p ≡ placeOf places b) where
     at-place : p ≡ b - 1
-    at-place = is-p ∙ sym (place-some b q is-q known)
+    at-place = let e = place-next places b p is-p (sym is-q ∙ not-false q known) in omega arith
 
     pub has-state : getD (getD t p []) 0 0 ≡ stateWord t b
     unfolding stateWord ofRow
@@ -51,19 +52,19 @@ module _ (t : List (List ℕ)) (b : ℕ) (q : Bool) (is-q : q ≡ isBench 16 b) 
     unfolding decisionIs decisionAt decisionOf ofRow
     decided h = rw (sym is-q ∙ not-false q known, ← at-place, eq-eqb (getD (getD t p []) 8 0) 1 h) refl
 
--- of the benches 1 to 16 the words are the run's
+-- where a table has a place the words are the run's
 module _ (t l : List (List ℕ)) where
-  pub state-stands : (b : ℕ) → isBench 16 b ≡ true → stateOf (stateWord t b) ≡ runOf 16 96 t l b .state
+  pub state-stands : (b : ℕ) → isBench places b ≡ true → stateOf (stateWord t b) ≡ runOf t l b .state
   unfolding stateWord runOf runBy benchOf
-  state-stands zero e = absurd (not-suc-le-zero (bench-first 0 e))
+  state-stands zero e = absurd (not-suc-le-zero (bench-first places 0 e))
   state-stands (suc k) e = let i : suc k - 1 ≡ k = omega arith in rw (e, i) refl
 
-  pub decision-stands : (b : ℕ) → isBench 16 b ≡ true → decisionAt t b ≡ runOf 16 96 t l b .decision
+  pub decision-stands : (b : ℕ) → isBench places b ≡ true → decisionAt t b ≡ runOf t l b .decision
   unfolding decisionAt runOf runBy benchOf
-  decision-stands zero e = absurd (not-suc-le-zero (bench-first 0 e))
+  decision-stands zero e = absurd (not-suc-le-zero (bench-first places 0 e))
   decision-stands (suc k) e = let i : suc k - 1 ≡ k = omega arith in rw (e, i) refl
 
   -- its messages are those of rounds 1 to the last sent, and then OUT if it sent it
-  pub sent-stands : (k : ℕ) → isBench 16 (suc k) ≡ true → runOf 16 96 t l (suc k) .sent ≡ lineOf 96 (logs l k) (sentWord t (suc k)) (eqb (rows 16 t k .silent) 1)
+  pub sent-stands : (k : ℕ) → isBench places (suc k) ≡ true → runOf t l (suc k) .sent ≡ lineOf (logs l k) (sentWord t (suc k)) (eqb (rows places t k .silent) 1)
   unfolding sentWord runOf runBy benchOf
   sent-stands k e = let i : suc k - 1 ≡ k = omega arith in rw (e, i) refl

@@ -1,10 +1,13 @@
 // What is read off the two tables, and nothing is changed: what a report says of a bench, and what a start asks of the worlds (worlds.rt).
 ghost use mathlib.Core.Path.{_≡_};
+ghost use Rattle.common.specs.Benches.{isBench};
+ghost use Rattle.kinds.specs.Sizes.{places};
 ghost use Rattle.reads.specs.Decisions.{decisionIs};
 ghost use Rattle.reads.specs.Reads.{stateWord, sentWord, decisionAt};
+use bench::FRESH;
 use kinds::BenchNo;
+use kinds::PLACES;
 use kinds::SlotNo;
-use sets::is_bench;
 use sets::place;
 use tables::Benches;
 use tables::CHOSE;
@@ -20,33 +23,33 @@ pub enum Decision {
     Chosen(SlotNo),
 }
 
-// 0 fresh, 1 running, 2 decided, 3 abstained, 4 left, 5 and above failed; 0 where there is no such bench.
+// The bench's state, one of those that crate `bench` names; fresh where a table has no such place.
 pub fn state_of(benches: &Benches, bench: BenchNo) -> u32
     ensures { λ r. ⌜ r ≡ stateWord (now (benches .entry)) (bench .0) ⌝ }
 {
-    if !is_bench(bench) {
-        return 0;
+    if !has_place(bench) {
+        return FRESH;
     }
     let k = place(bench);
     benches[k][STATE]
 }
 
-// The last round that the bench sent a message of; 0 where it sent none, or there is no such bench.
+// The last round that the bench sent a message of; 0 where it sent none, or a table has no such place.
 pub fn sent_of(benches: &Benches, bench: BenchNo) -> u32
     ensures { λ r. ⌜ r ≡ sentWord (now (benches .entry)) (bench .0) ⌝ }
 {
-    if !is_bench(bench) {
+    if !has_place(bench) {
         return 0;
     }
     let k = place(bench);
     benches[k][SENT]
 }
 
-// What the bench has decided; nothing where there is no such bench.
+// What the bench has decided; nothing where a table has no such place.
 pub fn decision_of(benches: &Benches, bench: BenchNo) -> Decision
     ensures { λ r. ⌜ decisionIs r ≡ decisionAt (now (benches .entry)) (bench .0) ⌝ }
 {
-    if !is_bench(bench) {
+    if !has_place(bench) {
         return Decision::None;
     }
     let k = place(bench);
@@ -54,4 +57,14 @@ pub fn decision_of(benches: &Benches, bench: BenchNo) -> Decision
         return Decision::None;
     }
     Decision::Chosen(SlotNo(benches[k][VALUE]))
+}
+
+// Whether a table has a place for the number.
+fn has_place(bench: BenchNo) -> bool
+    ensures { λ r. ⌜ r ≡ isBench places (bench .0) ⌝ }
+{
+    if bench.0 < 1 {
+        return false;
+    }
+    (bench.0 as usize) <= PLACES
 }

@@ -1,7 +1,13 @@
 // What start asks of the worlds: two visits of the benches.
 ghost use mathlib.Core.Path.{_≡_};
 ghost use Prim.Native.Nat.{_<_};
+ghost use Rattle.kinds.specs.Sizes.{benchesOf, places};
 ghost use Rattle.tables.specs.Steps.{lacksAt, lacksOne, lackedAt, lackedByOne};
+use bench::DECIDED;
+use bench::RUNNING;
+use kinds::DEPTH;
+use kinds::Size;
+use sets::benches_of;
 use sets::has;
 use tables::Benches;
 use tables::Logs;
@@ -9,10 +15,11 @@ use tables::SENT;
 use tables::STATE;
 
 // Whether the world lacks a bench that has started and has neither left nor failed.
-pub fn lacks_one(benches: &Benches, world: u32) -> bool
-    ensures { λ r. ⌜ r ≡ lacksOne 16 (now (benches .entry)) world ⌝ }
+pub fn lacks_one(benches: &Benches, world: u32, size: Size) -> bool
+    ensures { λ r. ⌜ r ≡ lacksOne (benchesOf size) (now (benches .entry)) world ⌝ }
 {
-    for j in 0..16usize {
+    let n = benches_of(size) as usize;
+    for j in 0..n {
         if lacks_at(benches, world, j) {
             return true;
         }
@@ -21,24 +28,25 @@ pub fn lacks_one(benches: &Benches, world: u32) -> bool
 }
 
 fn lacks_at(benches: &Benches, world: u32, j: usize) -> bool
-    requires { ⌜ j < 16 ⌝ }
+    requires { ⌜ j < places ⌝ }
     ensures { λ r. ⌜ r ≡ lacksAt (now (benches .entry)) world j ⌝ }
 {
     let state = benches[j][STATE];
-    if state == 1 {
+    if state == RUNNING {
         return !has(world, j);
     }
-    if state == 2 {
+    if state == DECIDED {
         return !has(world, j);
     }
     false
 }
 
 // Whether the world of some bench that ever started lacks the bench at k.
-pub fn lacked_by_one(benches: &Benches, logs: &Logs, k: usize) -> bool
-    ensures { λ r. ⌜ r ≡ lackedByOne 16 96 (now (benches .entry)) (now (logs .entry)) k ⌝ }
+pub fn lacked_by_one(benches: &Benches, logs: &Logs, k: usize, size: Size) -> bool
+    ensures { λ r. ⌜ r ≡ lackedByOne (benchesOf size) (now (benches .entry)) (now (logs .entry)) k ⌝ }
 {
-    for j in 0..16usize {
+    let n = benches_of(size) as usize;
+    for j in 0..n {
         if lacked_at(benches, logs, k, j) {
             return true;
         }
@@ -47,11 +55,11 @@ pub fn lacked_by_one(benches: &Benches, logs: &Logs, k: usize) -> bool
 }
 
 fn lacked_at(benches: &Benches, logs: &Logs, k: usize, j: usize) -> bool
-    requires { ⌜ j < 16 ⌝ }
-    ensures { λ r. ⌜ r ≡ lackedAt 96 (now (benches .entry)) (now (logs .entry)) k j ⌝ }
+    requires { ⌜ j < places ⌝ }
+    ensures { λ r. ⌜ r ≡ lackedAt (now (benches .entry)) (now (logs .entry)) k j ⌝ }
 {
     if 0 < benches[j][SENT] {
-        return !has(logs[j][96], k);
+        return !has(logs[j][DEPTH], k);
     }
     false
 }

@@ -10,6 +10,7 @@ use Rattle.kinds.specs.declared.Message.{Message}
 use Rattle.kinds.specs.declared.Message.the-variants.{Round, Out}
 use Rattle.bench.specs.declared.Bench.{Bench}
 use Rattle.bench.specs.Changes.{takeOf, takenOf, outOf, inState, inRound, sentTo, sentOut}
+use Rattle.kinds.specs.Sizes.{places, depth}
 use Rattle.tables.specs.Rows.{rowOf}
 use Rattle.tables.specs.Steps.{Acts, acted, putAt, sentOf}
 use Rattle.rounds.specs.Sending.{HasRoom, ChangesOwn}
@@ -21,19 +22,19 @@ module _ (m : Message) (rm : RoundMessage) (is-m : m ≡ Round rm) (room : HasRo
   pub room-first : 1 ≤ rm .round .0
   room-first = inside .0
 
-  pub room-value : rm .round .0 - 1 < 192
+  pub room-value : rm .round .0 - 1 < depth + depth
   room-value = omega (arith, inside)
 
-  pub room-world : rm .round .0 - 1 + 96 < 192
+  pub room-world : rm .round .0 - 1 + depth < depth + depth
   room-world = omega (arith, inside)
 
 module _ (t l t′ : List (List ℕ)) (k : ℕ) (b : Bench) (m : Message) where
-  pub sends-round : (rm : RoundMessage) → m ≡ Round rm → t′ ≡ set t k (rowOf 16 (sentTo (rm .round .0) (takenOf b k (rm .round .0))))
-      → Acts 0 t′ (putAt (putAt l k (rm .round .0 - 1) (rm .value .0)) k (rm .round .0 - 1 + 96) (rm .world)) (acted (sentOf 16 96 t l k b m))
+  pub sends-round : (rm : RoundMessage) → m ≡ Round rm → t′ ≡ set t k (rowOf places (sentTo (rm .round .0) (takenOf b k (rm .round .0))))
+      → Acts 0 t′ (putAt (putAt l k (rm .round .0 - 1) (rm .value .0)) k (rm .round .0 - 1 + depth) (rm .world)) (acted (sentOf t l k b m))
   unfolding sentOf takeOf
   sends-round rm e d = rw e (record { answer = refl; benches = d; logs = refl })
 
-  pub sends-out : m ≡ Out → t′ ≡ set t k (rowOf 16 (sentOut (outOf b k))) → Acts 0 t′ l (acted (sentOf 16 96 t l k b m))
+  pub sends-out : m ≡ Out → t′ ≡ set t k (rowOf places (sentOut (outOf b k))) → Acts 0 t′ l (acted (sentOf t l k b m))
   unfolding sentOf takeOf
   sends-out e d = rw e (record { answer = refl; benches = d; logs = refl })
 

@@ -1,17 +1,22 @@
 -- The words of a bench's row, read and written in place: what reading and writing the whole bench would give. For N benches.
 -- Assumes nothing; that a row has 9 + N words is a premise.
-use mathlib.Core.Path.{_≡_, refl, sym, ap, _∙_}
+use mathlib.Core.Path.{_≡_, refl, sym, ap, ap₂, _∙_}
 use mathlib.Core.List.{List, [], _∷_}
-use Prim.Native.Nat.{ℕ, zero, suc, _+_, _%_, _^_, _<_, suc-le-suc}
+use Prim.Native.Nat.{ℕ, zero, suc, _+_, _%_, _^_, _≤_, _<_, suc-le-suc}
 use native.Mathlib.Omega.{arith}
-use lib.ListN.{length, getD, set, length-set}
+use lib.ListN.{length, getD, set, replicate, length-set, length-replicate}
 use lib.Bits.{bitOr}
+use lib.Dec.{eqb}
+use lib.Seq.{getD-set-same, getD-set-other}
+use borrow.Author.Tests.{eqb-true, eqb-false}
+use Rattle.common.proofs.Tests.{split}
 use Rattle.kinds.specs.declared.RoundMessage.{RoundMessage}
 use Rattle.kinds.specs.declared.Message.{Message}
 use Rattle.kinds.specs.declared.Message.the-variants.{Round, Out}
 use Rattle.bench.specs.declared.Bench.{Bench}
 use Rattle.bench.specs.Changes.{takeOf, takenOf, outOf, noticeOf, inState, sentTo, sentOut}
 use Rattle.common.proofs.Places.{only-small}
+use Rattle.kinds.specs.Sizes.{places}
 use Rattle.tables.specs.Rows.{from, ofRow, rowOf, rows}
 use Rattle.tables.specs.Steps.{putAt}
 use Rattle.tables.proofs.Rows.{from-all, put-word}
@@ -25,6 +30,37 @@ get-from : (l : List ℕ) (i n j : ℕ) → j < n → getD (from l i n) j 0 ≡ 
 get-from l i zero j h = absurd (omega arith)
 get-from l i (suc n) zero h = let e : i ≡ i + 0 = omega arith in ap (λ (p : ℕ). getD l p 0) e
 get-from l i (suc n) (suc j) h = let e : suc i + j ≡ i + suc j = omega arith in get-from l (suc i) n j (omega arith) ∙ ap (λ (p : ℕ). getD l p 0) e
+
+-- ---- words copied one by one
+
+-- l has n places, and the first j have the words of r from place i on
+pub record Copied (r : List ℕ) (i : ℕ) (l : List ℕ) (n j : ℕ) : Type 0 where
+  pub size : length l ≡ n
+  pub same : (q : ℕ) → q < j → getD l q 0 ≡ getD r (i + q) 0
+
+pub copied-none : (r : List ℕ) (i n : ℕ) → Copied r i (replicate n 0) n 0
+copied-none r i n = record { size = length-replicate {A = ℕ} n 0; same = λ q h. absurd (omega arith) }
+
+pub copied-next : (r : List ℕ) (i : ℕ) (l : List ℕ) (n j : ℕ) → Copied r i l n j → j < n → Copied r i (set l j (getD r (i + j) 0)) n (j + 1)
+copied-next r i l n j c h = record {
+  size = length-set l j (getD r (i + j) 0) ∙ c .size;
+  same = λ q a. split (eqb q j)
+      (λ e. rw (eqb-true q j e) (getD-set-same l j (getD r (i + j) 0) 0 (omega (arith, c .size))))
+      (λ e. let ne = eqb-false q j e in getD-set-other l j q (getD r (i + j) 0) 0 ne ∙ c .same q (omega arith));
+}
+
+from-same : (l r : List ℕ) (a b n : ℕ) → ((q : ℕ) → q < n → getD l (a + q) 0 ≡ getD r (b + q) 0) → from l a n ≡ from r b n
+from-same l r a b zero f = refl
+from-same l r a b (suc n) f =
+    let z : (a + 0 ≡ a) × (b + 0 ≡ b) = (omega arith, omega arith) in
+    let first : getD l a 0 ≡ getD r b 0 = ap (λ (p : ℕ). getD l p 0) (sym (z .0)) ∙ f 0 (omega arith) ∙ ap (λ (p : ℕ). getD r p 0) (z .1) in
+    ap₂ (λ (x : ℕ) (y : List ℕ). x ∷ y) first (from-same l r (suc a) (suc b) n λ q h.
+    let e : suc a + q ≡ a + suc q = omega arith in let e′ : suc b + q ≡ b + suc q = omega arith in rw (e, e′) (f (suc q) (omega arith)))
+
+pub copied-all : (r : List ℕ) (i : ℕ) (l : List ℕ) (n j : ℕ) → Copied r i l n j → n ≤ j → l ≡ from r i n
+copied-all r i l n j c h = sym (from-all n l (c .size)) ∙ from-same l r 0 i n (λ q a. let e : 0 + q ≡ q = omega arith in rw e (c .same q (omega arith)))
+
+-- ---- a row
 
 own : Bench → List ℕ → List ℕ
 own b r = set (set (set (set (set r 0 (b .state)) 1 (b .round .0)) 2 (b .value .0)) 3 (b .world)) 8 (b .chose)
@@ -84,14 +120,14 @@ module _ (N : ℕ) (t : List (List ℕ)) (k : ℕ) where
     pub puts-state : (x : ℕ) → putAt t k 0 x ≡ set t k (rowOf N (inState x (rows N t k)))
     puts-state x = ap (set t k) (state-word N (getD t k []) full x)
 
-    pub puts-notice : (j x : ℕ) → j < 16 → x ≡ 2 ^ j % 2 ^ 32 → putAt t k 5 (bitOr (getD (getD t k []) 5 0) x) ≡ set t k (rowOf N (noticeOf (rows N t k) j))
+    pub puts-notice : (j x : ℕ) → j < places → x ≡ 2 ^ j % 2 ^ 32 → putAt t k 5 (bitOr (getD (getD t k []) 5 0) x) ≡ set t k (rowOf N (noticeOf (rows N t k) j))
     puts-notice j x h e = rw (e ∙ only-small j (omega arith)) (ap (set t k) (noticed-word N (getD t k []) full j))
 
     pub puts-round : (j : ℕ) (m : Message) (rm : RoundMessage) → m ≡ Round rm → putAt t k (9 + j) (rm .round .0) ≡ set t k (rowOf N (takeOf (rows N t k) j m))
     unfolding takeOf
     puts-round j m rm e = rw e (ap (set t k) (taken-word N (getD t k []) full j (rm .round .0)))
 
-    pub puts-out : (j x : ℕ) (m : Message) → j < 16 → x ≡ 2 ^ j % 2 ^ 32 → m ≡ Out → putAt t k 4 (bitOr (getD (getD t k []) 4 0) x) ≡ set t k (rowOf N (takeOf (rows N t k) j m))
+    pub puts-out : (j x : ℕ) (m : Message) → j < places → x ≡ 2 ^ j % 2 ^ 32 → m ≡ Out → putAt t k 4 (bitOr (getD (getD t k []) 4 0) x) ≡ set t k (rowOf N (takeOf (rows N t k) j m))
     unfolding takeOf
     puts-out j x m h e i = rw (i, e ∙ only-small j (omega arith)) (ap (set t k) (outs-word N (getD t k []) full j))
 
@@ -107,6 +143,6 @@ module _ (N : ℕ) (t : List (List ℕ)) (k : ℕ) where
         pub puts-spoken : (n : ℕ) → putAt (putAt u k 6 n) k (9 + k) n ≡ set t k (rowOf N (sentTo n (takenOf b k n)))
         puts-spoken n = put-word t k at _ _ (put-word t k at _ _ (is-u ∙ own-written) 6 n) (9 + k) n ∙ ap (set t k) (spoken-words N (getD t k []) full b kept k n)
 
-        pub puts-parted : (x : ℕ) → k < 16 → x ≡ 2 ^ k % 2 ^ 32 → putAt (putAt u k 4 (bitOr (b .outs) x)) k 7 1 ≡ set t k (rowOf N (sentOut (outOf b k)))
+        pub puts-parted : (x : ℕ) → k < places → x ≡ 2 ^ k % 2 ^ 32 → putAt (putAt u k 4 (bitOr (b .outs) x)) k 7 1 ≡ set t k (rowOf N (sentOut (outOf b k)))
         puts-parted x h e =
             rw (e ∙ only-small k (omega arith)) (put-word t k at _ _ (put-word t k at _ _ (is-u ∙ own-written) 4 (bitOr (b .outs) (2 ^ k))) 7 1 ∙ ap (set t k) (parted-words N (getD t k []) full b kept k))

@@ -1,14 +1,15 @@
--- What a bench must be to send: a round message has room in a log of 96 rounds, and only the bench's own words have changed.
+-- What a bench must be to send: a round message has room in a log, and only the bench's own words have changed.
 use mathlib.Core.Path.{_≡_}
 use mathlib.Core.List.{List}
 use Prim.Native.Nat.{ℕ, _≤_}
+use Rattle.kinds.specs.Sizes.{depth}
 use Rattle.kinds.specs.declared.Message.{Message}
 use Rattle.kinds.specs.declared.Message.the-variants.{Round, Out}
 use Rattle.bench.specs.declared.Bench.{Bench}
 use Rattle.tables.specs.Steps.{putAt}
 
 abbrev pub HasRoom : Message → Type 0
-HasRoom (Round m) = (1 ≤ m .round .0) × (m .round .0 ≤ 96)
+HasRoom (Round m) = (1 ≤ m .round .0) × (m .round .0 ≤ depth)
 HasRoom Out = Unit {0}
 
 -- b is c but for what a bench changes of itself: its state, round, value, world and choice

@@ -1,6 +1,7 @@
 // Arrive and notice at the benches' places: what a bench takes of a line, and what closes it.
 
 ghost use Prim.Native.Nat.{_<_};
+ghost use Rattle.kinds.specs.Sizes.{places};
 ghost use Rattle.tables.specs.Steps.{Acts, arriveAt, noticeAt};
 use crate::lines::next_on;
 use crate::rows::noticed_at;
@@ -11,6 +12,8 @@ use crate::rows::sent_at;
 use crate::rows::silent_at;
 use crate::rows::state_at;
 use crate::rows::taken_at;
+use bench::LEFT;
+use bench::RUNNING;
 use bench::Waiting;
 use kinds::AnswerNo;
 use sets::has;
@@ -19,10 +22,10 @@ use tables::Logs;
 
 // The bench at k takes the next message of the line from the bench at j: six words are read, and one is written.
 pub(crate) fn arrive_at(benches: &mut Benches, logs: &mut Logs, k: usize, j: usize) -> AnswerNo
-    requires { ⌜ (k < 16) × (j < 16) ⌝ }
-    ensures { λ r. ⌜ Acts r (now (benches .exit)) (now (logs .exit)) (arriveAt 16 96 (now (benches .entry)) (now (logs .entry)) k j) ⌝ }
+    requires { ⌜ (k < places) × (j < places) ⌝ }
+    ensures { λ r. ⌜ Acts r (now (benches .exit)) (now (logs .exit)) (arriveAt (now (benches .entry)) (now (logs .entry)) k j) ⌝ }
 {
-    if 1 < state_at(&*benches, k) {
+    if RUNNING < state_at(&*benches, k) {
         return 3;
     }
     if has(noticed_at(&*benches, k), j) {
@@ -43,13 +46,13 @@ pub(crate) fn arrive_at(benches: &mut Benches, logs: &mut Logs, k: usize, j: usi
 
 // The bench at k learns that the bench at j has failed.
 pub(crate) fn notice_at(benches: &mut Benches, logs: &mut Logs, k: usize, j: usize) -> AnswerNo
-    requires { ⌜ (k < 16) × (j < 16) ⌝ }
-    ensures { λ r. ⌜ Acts r (now (benches .exit)) (now (logs .exit)) (noticeAt 16 (now (benches .entry)) (now (logs .entry)) k j) ⌝ }
+    requires { ⌜ (k < places) × (j < places) ⌝ }
+    ensures { λ r. ⌜ Acts r (now (benches .exit)) (now (logs .exit)) (noticeAt (now (benches .entry)) (now (logs .entry)) k j) ⌝ }
 {
-    if 1 < state_at(&*benches, k) {
+    if RUNNING < state_at(&*benches, k) {
         return 3;
     }
-    if state_at(&*benches, j) <= 4 {
+    if state_at(&*benches, j) <= LEFT {
         return 10;
     }
     if has(noticed_at(&*benches, k), j) {

@@ -12,6 +12,7 @@ mod turns;
 ghost use mathlib.Core.Path.{_≡_};
 ghost use Rattle.published.specs.Rounds as published;
 ghost use Rattle.kinds.specs.Stand.{stepOf};
+ghost use Rattle.kinds.specs.Sizes.{benchesOf, roundsOf};
 ghost use Rattle.tables.specs.Steps.{Acts, tableStep, emptyTables};
 use crate::arrivals::arrive_at;
 use crate::arrivals::notice_at;
@@ -22,33 +23,44 @@ use crate::starts::start_at;
 use crate::turns::turn_at;
 use kinds::AnswerNo;
 use kinds::BenchNo;
+use kinds::PLACES;
+use kinds::Size;
 use kinds::SlotNo;
 use kinds::Step;
 use sets::is_bench;
 use sets::place;
 use tables::Benches;
+use tables::LOG;
 use tables::Logs;
+use tables::ROW;
 
 // A new run: every bench is fresh and every log is blank.
 pub fn empty(benches: &mut Benches, logs: &mut Logs)
-    ensures { λ _. ⌜ now (benches .exit) ≡ emptyTables 16 96 .benches ⌝ }
-    ensures { λ _. ⌜ now (logs .exit) ≡ emptyTables 16 96 .logs ⌝ }
+    ensures { λ _. ⌜ now (benches .exit) ≡ emptyTables .benches ⌝ }
+    ensures { λ _. ⌜ now (logs .exit) ≡ emptyTables .logs ⌝ }
 {
-    *benches = [[0; 25]; 16];
-    *logs = [[0; 192]; 16];
+    *benches = [[0; ROW]; PLACES];
+    *logs = [[0; LOG]; PLACES];
 }
 
-pub fn step(benches: &mut Benches, logs: &mut Logs, s: Step) -> AnswerNo
-    ensures { λ r. ⌜ Acts r (now (benches .exit)) (now (logs .exit)) (tableStep 16 96 (now (benches .entry)) (now (logs .entry)) (stepOf s)) ⌝ }
+pub fn step(benches: &mut Benches, logs: &mut Logs, s: Step, size: Size) -> AnswerNo
+    ensures { λ r. ⌜ Acts r (now (benches .exit)) (now (logs .exit)) (tableStep (benchesOf size) (roundsOf size) (now (benches .entry)) (now (logs .entry)) (stepOf s)) ⌝ }
 {
     match s {
-        Step::Start(bench, value, world) => start(&mut *benches, &mut *logs, bench, value, world),
-        Step::Abstain(bench) => abstain(&mut *benches, &mut *logs, bench),
-        Step::Leave(bench) => leave(&mut *benches, &mut *logs, bench),
-        Step::Fail(bench) => fail(&mut *benches, &mut *logs, bench),
-        Step::Turn(bench) => turn(&mut *benches, &mut *logs, bench),
-        Step::Arrive(bench, from) => arrive(&mut *benches, &mut *logs, bench, from),
-        Step::Notice(bench, from) => notice(&mut *benches, &mut *logs, bench, from),
+        Step::Start(bench, value, world) => start(
+            &mut *benches,
+            &mut *logs,
+            bench,
+            value,
+            world,
+            size,
+        ),
+        Step::Abstain(bench) => abstain(&mut *benches, &mut *logs, bench, size),
+        Step::Leave(bench) => leave(&mut *benches, &mut *logs, bench, size),
+        Step::Fail(bench) => fail(&mut *benches, &mut *logs, bench, size),
+        Step::Turn(bench) => turn(&mut *benches, &mut *logs, bench, size),
+        Step::Arrive(bench, from) => arrive(&mut *benches, &mut *logs, bench, from, size),
+        Step::Notice(bench, from) => notice(&mut *benches, &mut *logs, bench, from, size),
     }
 }
 
@@ -59,63 +71,70 @@ pub fn start(
     bench: BenchNo,
     value: SlotNo,
     world: u32,
+    size: Size,
 ) -> AnswerNo
-    ensures { λ r. ⌜ Acts r (now (benches .exit)) (now (logs .exit)) (tableStep 16 96 (now (benches .entry)) (now (logs .entry)) (published.start (bench .0) (value .0) world)) ⌝ }
+    ensures { λ r. ⌜ Acts r (now (benches .exit)) (now (logs .exit)) (tableStep (benchesOf size) (roundsOf size) (now (benches .entry)) (now (logs .entry)) (published.start (bench .0) (value .0) world)) ⌝ }
 {
-    if !is_bench(bench) {
+    if !is_bench(bench, size) {
         return 1;
     }
-    start_at(&mut *benches, &mut *logs, place(bench), value, world)
+    start_at(&mut *benches, &mut *logs, place(bench), value, world, size)
 }
 
 // Checks 1, 3.
-pub fn abstain(benches: &mut Benches, logs: &mut Logs, bench: BenchNo) -> AnswerNo
-    ensures { λ r. ⌜ Acts r (now (benches .exit)) (now (logs .exit)) (tableStep 16 96 (now (benches .entry)) (now (logs .entry)) (published.abstain (bench .0))) ⌝ }
+pub fn abstain(benches: &mut Benches, logs: &mut Logs, bench: BenchNo, size: Size) -> AnswerNo
+    ensures { λ r. ⌜ Acts r (now (benches .exit)) (now (logs .exit)) (tableStep (benchesOf size) (roundsOf size) (now (benches .entry)) (now (logs .entry)) (published.abstain (bench .0))) ⌝ }
 {
-    if !is_bench(bench) {
+    if !is_bench(bench, size) {
         return 1;
     }
     abstain_at(&mut *benches, &mut *logs, place(bench))
 }
 
 // Checks 1, 3.
-pub fn leave(benches: &mut Benches, logs: &mut Logs, bench: BenchNo) -> AnswerNo
-    ensures { λ r. ⌜ Acts r (now (benches .exit)) (now (logs .exit)) (tableStep 16 96 (now (benches .entry)) (now (logs .entry)) (published.leave (bench .0))) ⌝ }
+pub fn leave(benches: &mut Benches, logs: &mut Logs, bench: BenchNo, size: Size) -> AnswerNo
+    ensures { λ r. ⌜ Acts r (now (benches .exit)) (now (logs .exit)) (tableStep (benchesOf size) (roundsOf size) (now (benches .entry)) (now (logs .entry)) (published.leave (bench .0))) ⌝ }
 {
-    if !is_bench(bench) {
+    if !is_bench(bench, size) {
         return 1;
     }
     leave_at(&mut *benches, &mut *logs, place(bench))
 }
 
 // Checks 1, 3.
-pub fn fail(benches: &mut Benches, logs: &mut Logs, bench: BenchNo) -> AnswerNo
-    ensures { λ r. ⌜ Acts r (now (benches .exit)) (now (logs .exit)) (tableStep 16 96 (now (benches .entry)) (now (logs .entry)) (published.fail (bench .0))) ⌝ }
+pub fn fail(benches: &mut Benches, logs: &mut Logs, bench: BenchNo, size: Size) -> AnswerNo
+    ensures { λ r. ⌜ Acts r (now (benches .exit)) (now (logs .exit)) (tableStep (benchesOf size) (roundsOf size) (now (benches .entry)) (now (logs .entry)) (published.fail (bench .0))) ⌝ }
 {
-    if !is_bench(bench) {
+    if !is_bench(bench, size) {
         return 1;
     }
     fail_at(&mut *benches, &mut *logs, place(bench))
 }
 
 // Checks 1, 3, 11, 12.
-pub fn turn(benches: &mut Benches, logs: &mut Logs, bench: BenchNo) -> AnswerNo
-    ensures { λ r. ⌜ Acts r (now (benches .exit)) (now (logs .exit)) (tableStep 16 96 (now (benches .entry)) (now (logs .entry)) (published.turn (bench .0))) ⌝ }
+pub fn turn(benches: &mut Benches, logs: &mut Logs, bench: BenchNo, size: Size) -> AnswerNo
+    ensures { λ r. ⌜ Acts r (now (benches .exit)) (now (logs .exit)) (tableStep (benchesOf size) (roundsOf size) (now (benches .entry)) (now (logs .entry)) (published.turn (bench .0))) ⌝ }
 {
-    if !is_bench(bench) {
+    if !is_bench(bench, size) {
         return 1;
     }
-    turn_at(&mut *benches, &mut *logs, place(bench))
+    turn_at(&mut *benches, &mut *logs, place(bench), size)
 }
 
 // Checks 1, 2, 3, 9, 8.
-pub fn arrive(benches: &mut Benches, logs: &mut Logs, bench: BenchNo, from: BenchNo) -> AnswerNo
-    ensures { λ r. ⌜ Acts r (now (benches .exit)) (now (logs .exit)) (tableStep 16 96 (now (benches .entry)) (now (logs .entry)) (published.arrive (bench .0) (from .0))) ⌝ }
+pub fn arrive(
+    benches: &mut Benches,
+    logs: &mut Logs,
+    bench: BenchNo,
+    from: BenchNo,
+    size: Size,
+) -> AnswerNo
+    ensures { λ r. ⌜ Acts r (now (benches .exit)) (now (logs .exit)) (tableStep (benchesOf size) (roundsOf size) (now (benches .entry)) (now (logs .entry)) (published.arrive (bench .0) (from .0))) ⌝ }
 {
-    if !is_bench(bench) {
+    if !is_bench(bench, size) {
         return 1;
     }
-    if !is_bench(from) {
+    if !is_bench(from, size) {
         return 1;
     }
     if bench.0 == from.0 {
@@ -125,13 +144,19 @@ pub fn arrive(benches: &mut Benches, logs: &mut Logs, bench: BenchNo, from: Benc
 }
 
 // Checks 1, 2, 3, 10, 9.
-pub fn notice(benches: &mut Benches, logs: &mut Logs, bench: BenchNo, from: BenchNo) -> AnswerNo
-    ensures { λ r. ⌜ Acts r (now (benches .exit)) (now (logs .exit)) (tableStep 16 96 (now (benches .entry)) (now (logs .entry)) (published.notice (bench .0) (from .0))) ⌝ }
+pub fn notice(
+    benches: &mut Benches,
+    logs: &mut Logs,
+    bench: BenchNo,
+    from: BenchNo,
+    size: Size,
+) -> AnswerNo
+    ensures { λ r. ⌜ Acts r (now (benches .exit)) (now (logs .exit)) (tableStep (benchesOf size) (roundsOf size) (now (benches .entry)) (now (logs .entry)) (published.notice (bench .0) (from .0))) ⌝ }
 {
-    if !is_bench(bench) {
+    if !is_bench(bench, size) {
         return 1;
     }
-    if !is_bench(from) {
+    if !is_bench(from, size) {
         return 1;
     }
     if bench.0 == from.0 {

@@ -2,15 +2,17 @@
 
 ghost use mathlib.Core.Path.{_≡_};
 ghost use mathlib.Core.Bool.{true};
-ghost use Prim.Native.Nat.{_-_, _<_};
+ghost use Prim.Native.Nat.{_+_, _-_, _<_};
 ghost use lib.ListN.{length, getD, set};
 ghost use Rattle.common.specs.Benches.{isBench};
 ghost use Rattle.bench.specs.Changes.{takeOf, takenOf, outOf, noticeOf, inState, sentTo, sentOut};
-ghost use Rattle.tables.specs.Rows.{readRow, rowOf, rows};
+ghost use Rattle.kinds.specs.Sizes.{places};
+ghost use Rattle.tables.specs.Rows.{from, readRow, rowOf, rows};
 ghost use Rattle.rounds.specs.Sending.{ChangesOwn, ownAt};
 use bench::Bench;
 use kinds::BenchNo;
 use kinds::Message;
+use kinds::PLACES;
 use kinds::RoundNo;
 use kinds::SlotNo;
 use sets::only;
@@ -19,6 +21,7 @@ use tables::CHOSE;
 use tables::NOTICED;
 use tables::OUTS;
 use tables::ROUND;
+use tables::Row;
 use tables::SENT;
 use tables::SILENT;
 use tables::STATE;
@@ -29,14 +32,14 @@ use tables::WORLD;
 // ---- the whole row
 
 pub(crate) fn load(t: &Benches, k: usize) -> Bench
-    requires { ⌜ k < 16 ⌝ }
-    ensures { λ r. ⌜ r ≡ rows 16 (now (t .entry)) k ⌝ }
+    requires { ⌜ k < places ⌝ }
+    ensures { λ r. ⌜ r ≡ rows places (now (t .entry)) k ⌝ }
 {
     read_row(t[k])
 }
 
-fn read_row(row: [u32; 25]) -> Bench
-    ensures { λ r. ⌜ r ≡ readRow 16 row ⌝ }
+fn read_row(row: Row) -> Bench
+    ensures { λ r. ⌜ r ≡ readRow places row ⌝ }
 {
     Bench {
         state: row[STATE],
@@ -48,75 +51,69 @@ fn read_row(row: [u32; 25]) -> Bench
         sent: row[SENT],
         silent: row[SILENT],
         chose: row[CHOSE],
-        taken: [
-            row[TAKEN],
-            row[TAKEN + 1],
-            row[TAKEN + 2],
-            row[TAKEN + 3],
-            row[TAKEN + 4],
-            row[TAKEN + 5],
-            row[TAKEN + 6],
-            row[TAKEN + 7],
-            row[TAKEN + 8],
-            row[TAKEN + 9],
-            row[TAKEN + 10],
-            row[TAKEN + 11],
-            row[TAKEN + 12],
-            row[TAKEN + 13],
-            row[TAKEN + 14],
-            row[TAKEN + 15],
-        ],
+        taken: counts(row),
     }
+}
+
+// How many round messages are taken of each place.
+fn counts(row: Row) -> [u32; PLACES]
+    ensures { λ r. ⌜ r ≡ from row 9 places ⌝ }
+{
+    let mut taken = [0; PLACES];
+    for j in 0..PLACES {
+        taken[j] = row[TAKEN + j];
+    }
+    taken
 }
 
 // ---- one word read
 
 pub(crate) fn state_at(t: &Benches, k: usize) -> u32
-    requires { ⌜ k < 16 ⌝ }
-    ensures { λ r. ⌜ r ≡ rows 16 (now (t .entry)) k .state ⌝ }
+    requires { ⌜ k < places ⌝ }
+    ensures { λ r. ⌜ r ≡ rows places (now (t .entry)) k .state ⌝ }
 {
     t[k][STATE]
 }
 
 pub(crate) fn round_at(t: &Benches, k: usize) -> u32
-    requires { ⌜ k < 16 ⌝ }
-    ensures { λ r. ⌜ r ≡ rows 16 (now (t .entry)) k .round .0 ⌝ }
+    requires { ⌜ k < places ⌝ }
+    ensures { λ r. ⌜ r ≡ rows places (now (t .entry)) k .round .0 ⌝ }
 {
     t[k][ROUND]
 }
 
 pub(crate) fn outs_at(t: &Benches, k: usize) -> u32
-    requires { ⌜ k < 16 ⌝ }
-    ensures { λ r. ⌜ r ≡ rows 16 (now (t .entry)) k .outs ⌝ }
+    requires { ⌜ k < places ⌝ }
+    ensures { λ r. ⌜ r ≡ rows places (now (t .entry)) k .outs ⌝ }
 {
     t[k][OUTS]
 }
 
 pub(crate) fn noticed_at(t: &Benches, k: usize) -> u32
-    requires { ⌜ k < 16 ⌝ }
-    ensures { λ r. ⌜ r ≡ rows 16 (now (t .entry)) k .noticed ⌝ }
+    requires { ⌜ k < places ⌝ }
+    ensures { λ r. ⌜ r ≡ rows places (now (t .entry)) k .noticed ⌝ }
 {
     t[k][NOTICED]
 }
 
 pub(crate) fn sent_at(t: &Benches, k: usize) -> u32
-    requires { ⌜ k < 16 ⌝ }
-    ensures { λ r. ⌜ r ≡ rows 16 (now (t .entry)) k .sent ⌝ }
+    requires { ⌜ k < places ⌝ }
+    ensures { λ r. ⌜ r ≡ rows places (now (t .entry)) k .sent ⌝ }
 {
     t[k][SENT]
 }
 
 pub(crate) fn silent_at(t: &Benches, k: usize) -> u32
-    requires { ⌜ k < 16 ⌝ }
-    ensures { λ r. ⌜ r ≡ rows 16 (now (t .entry)) k .silent ⌝ }
+    requires { ⌜ k < places ⌝ }
+    ensures { λ r. ⌜ r ≡ rows places (now (t .entry)) k .silent ⌝ }
 {
     t[k][SILENT]
 }
 
 // How many round messages bench k has taken of place j.
 pub(crate) fn taken_at(t: &Benches, k: usize, j: usize) -> u32
-    requires { ⌜ (k < 16) × (j < 16) ⌝ }
-    ensures { λ r. ⌜ r ≡ getD (rows 16 (now (t .entry)) k .taken) j 0 ⌝ }
+    requires { ⌜ (k < places) × (j < places) ⌝ }
+    ensures { λ r. ⌜ r ≡ getD (rows places (now (t .entry)) k .taken) j 0 ⌝ }
 {
     t[k][TAKEN + j]
 }
@@ -124,8 +121,8 @@ pub(crate) fn taken_at(t: &Benches, k: usize, j: usize) -> u32
 // ---- one word written: every other word of the row stays
 
 pub(crate) fn put_state(t: &mut Benches, k: usize, state: u32)
-    requires { ⌜ k < 16 ⌝ }
-    ensures { λ _. ⌜ now (t .exit) ≡ set (now (t .entry)) k (rowOf 16 (inState state (rows 16 (now (t .entry)) k))) ⌝ }
+    requires { ⌜ k < places ⌝ }
+    ensures { λ _. ⌜ now (t .exit) ≡ set (now (t .entry)) k (rowOf places (inState state (rows places (now (t .entry)) k))) ⌝ }
 {
     full(t[k]);
     t[k][STATE] = state;
@@ -133,8 +130,8 @@ pub(crate) fn put_state(t: &mut Benches, k: usize, state: u32)
 
 // The bench at k notices the bench at j, as `Bench::notice` has it.
 pub(crate) fn put_notice(t: &mut Benches, k: usize, j: usize)
-    requires { ⌜ (k < 16) × (j < 16) ⌝ }
-    ensures { λ _. ⌜ now (t .exit) ≡ set (now (t .entry)) k (rowOf 16 (noticeOf (rows 16 (now (t .entry)) k) j)) ⌝ }
+    requires { ⌜ (k < places) × (j < places) ⌝ }
+    ensures { λ _. ⌜ now (t .exit) ≡ set (now (t .entry)) k (rowOf places (noticeOf (rows places (now (t .entry)) k) j)) ⌝ }
 {
     full(t[k]);
     t[k][NOTICED] = t[k][NOTICED] | only(j);
@@ -142,8 +139,8 @@ pub(crate) fn put_notice(t: &mut Benches, k: usize, j: usize)
 
 // The bench at k takes a message of the bench at j, as `Bench::take` has it.
 pub(crate) fn put_take(t: &mut Benches, k: usize, j: usize, m: Message)
-    requires { ⌜ (k < 16) × (j < 16) ⌝ }
-    ensures { λ _. ⌜ now (t .exit) ≡ set (now (t .entry)) k (rowOf 16 (takeOf (rows 16 (now (t .entry)) k) j m)) ⌝ }
+    requires { ⌜ (k < places) × (j < places) ⌝ }
+    ensures { λ _. ⌜ now (t .exit) ≡ set (now (t .entry)) k (rowOf places (takeOf (rows places (now (t .entry)) k) j m)) ⌝ }
 {
     full(t[k]);
     match m {
@@ -160,8 +157,8 @@ pub(crate) fn put_take(t: &mut Benches, k: usize, j: usize, m: Message)
 
 // The bench at k, now b, has sent its message of round n, and has taken it.
 pub(crate) fn put_spoken(t: &mut Benches, k: usize, b: Bench, n: u32)
-    requires { ⌜ (k < 16) × ChangesOwn b (rows 16 (now t) k) ⌝ }
-    ensures { λ _. ⌜ now (t .exit) ≡ set (now (t .entry)) k (rowOf 16 (sentTo n (takenOf b k n))) ⌝ }
+    requires { ⌜ (k < places) × ChangesOwn b (rows places (now t) k) ⌝ }
+    ensures { λ _. ⌜ now (t .exit) ≡ set (now (t .entry)) k (rowOf places (sentTo n (takenOf b k n))) ⌝ }
 {
     full(t[k]);
     put_own(&mut *t, k, b);
@@ -171,8 +168,8 @@ pub(crate) fn put_spoken(t: &mut Benches, k: usize, b: Bench, n: u32)
 
 // The bench at k, now b, has sent OUT, and has taken it.
 pub(crate) fn put_parted(t: &mut Benches, k: usize, b: Bench)
-    requires { ⌜ (k < 16) × ChangesOwn b (rows 16 (now t) k) ⌝ }
-    ensures { λ _. ⌜ now (t .exit) ≡ set (now (t .entry)) k (rowOf 16 (sentOut (outOf b k))) ⌝ }
+    requires { ⌜ (k < places) × ChangesOwn b (rows places (now t) k) ⌝ }
+    ensures { λ _. ⌜ now (t .exit) ≡ set (now (t .entry)) k (rowOf places (sentOut (outOf b k))) ⌝ }
 {
     full(t[k]);
     put_own(&mut *t, k, b);
@@ -182,7 +179,7 @@ pub(crate) fn put_parted(t: &mut Benches, k: usize, b: Bench)
 
 // What a bench changes of itself.
 fn put_own(t: &mut Benches, k: usize, b: Bench)
-    requires { ⌜ k < 16 ⌝ }
+    requires { ⌜ k < places ⌝ }
     ensures { λ _. ⌜ now (t .exit) ≡ ownAt (now (t .entry)) k b ⌝ }
 {
     t[k][STATE] = b.state;
@@ -193,6 +190,6 @@ fn put_own(t: &mut Benches, k: usize, b: Bench)
 }
 
 // Nothing is done: of an array by value the checker knows the length, of one that is lent it does not.
-fn full(row: [u32; 25])
-    ensures { λ _. ⌜ length row ≡ 25 ⌝ }
+fn full(row: Row)
+    ensures { λ _. ⌜ length row ≡ 9 + places ⌝ }
 {}

@@ -4,14 +4,18 @@
 use libc::STDERR_FILENO;
 use libc::STDIN_FILENO;
 use libc::STDOUT_FILENO;
+use reports::LONGEST;
 use reports::Reported;
 use room::totals::put_refusal;
+use run_report::ROOM;
 use run_report::report;
 
-// The input has room for one byte more than a text may have, to see that it is too long, and the room for the longest report.
+// One byte more than a text may have, to see that it is too long.
+const INPUT: usize = LONGEST + 1;
+
 fn main() {
-    let mut input = [0u8; 65537];
-    let mut room = [0u8; 1365176];
+    let mut input = [0u8; INPUT];
+    let mut room = [0u8; ROOM];
     run(&mut input, &mut room);
 }
 

@@ -11,7 +11,8 @@ use borrow.Author.Tests.{ne-eqb, eq-eqb, le-leb}
 use Rattle.published.specs.Rounds.{Message, Round, Out, failed}
 use Rattle.common.specs.Benches.{isBench}
 use Rattle.common.proofs.Tests.{cond-ind}
-use Rattle.tables.specs.Runs.{roundsOf, lineOf, stateOf, benchOf, runBy, runOf}
+use Rattle.kinds.specs.Sizes.{places}
+use Rattle.tables.specs.Runs.{messagesTo, lineOf, stateOf, benchOf, runBy, runOf}
 use Rattle.tables.proofs.States.{fresh-is}
 use Rattle.reads.specs.declared.Decision.{Decision as Decided}
 use Rattle.reads.specs.Decisions.{decisionIs}
@@ -32,10 +33,10 @@ last-append r [] m = refl
 last-append r (Round q v w ∷ l) m = last-append q l m
 last-append r (Out ∷ l) m = last-append r l m
 
-last-rounds : (R : ℕ) (log : List ℕ) (n : ℕ) → lastRound 0 (roundsOf R log n) ≡ n
-unfolding lastRound roundsOf
-last-rounds R log zero = refl
-last-rounds R log (suc n) = last-append 0 (roundsOf R log n) _
+last-rounds : (log : List ℕ) (n : ℕ) → lastRound 0 (messagesTo log n) ≡ n
+unfolding lastRound messagesTo
+last-rounds log zero = refl
+last-rounds log (suc n) = last-append 0 (messagesTo log n) _
 
 last-out : (r : ℕ) (out : Bool) → lastRound r (cond out (Out ∷ []) []) ≡ r
 unfolding lastRound
@@ -43,19 +44,19 @@ last-out r true = refl
 last-out r false = refl
 
 -- the last round of a bench's messages is how many rounds it has sent
-pub last-sent : (R : ℕ) (log : List ℕ) (n : ℕ) (out : Bool) → lastRound 0 (lineOf R log n out) ≡ n
+pub last-sent : (log : List ℕ) (n : ℕ) (out : Bool) → lastRound 0 (lineOf log n out) ≡ n
 unfolding lineOf
-last-sent R log n out = last-append 0 (roundsOf R log n) _ ∙ rw (last-rounds R log n) (last-out n out)
+last-sent log n out = last-append 0 (messagesTo log n) _ ∙ rw (last-rounds log n) (last-out n out)
 
-bench-is : (k : ℕ) → k < 16 → isBench 16 (suc k) ≡ true
+bench-is : (k : ℕ) → k < places → isBench places (suc k) ≡ true
 unfolding isBench
-bench-is k h = rw (le-leb 1 (suc k) (omega arith), le-leb (suc k) 16 (omega arith)) refl
+bench-is k h = rw (le-leb 1 (suc k) (omega arith), le-leb (suc k) places (omega arith)) refl
 
-row-line : (t l : List (List ℕ)) (k : ℕ) → k < 16 → rowLine t (suc k) ≡ benchLine (suc k) (runOf 16 96 t l (suc k))
+row-line : (t l : List (List ℕ)) (k : ℕ) → k < places → rowLine t (suc k) ≡ benchLine (suc k) (runOf t l (suc k))
 unfolding rowLine benchLine stateWord sentWord decisionAt runOf runBy benchOf
 row-line t l k h = simp (bench-is k h, sub-one, last-sent, fresh-is)
 
-pub row-lines : (t l : List (List ℕ)) (n : ℕ) → n ≤ 16 → rowLines t n ≡ benchLines n (runOf 16 96 t l)
+pub row-lines : (t l : List (List ℕ)) (n : ℕ) → n ≤ places → rowLines t n ≡ benchLines n (runOf t l)
 unfolding rowLines benchLines
 row-lines t l zero h = refl
 row-lines t l (suc n) h = rw (row-lines t l n (omega arith), row-line t l n (omega arith)) refl
@@ -112,9 +113,9 @@ module _ (t : List (List ℕ)) (b state : ℕ) (e : state ≡ stateWord t b) whe
 
 -- ---- the lines stored, bench by bench
 
--- the lines of the first k benches are stored
-pub record Listed (room₀ : List ℕ) (t : List (List ℕ)) (room : List ℕ) (at k : ℕ) : Type 0 where
-  pub upto : k ≤ 16
+-- of n benches the lines of the first k are stored
+pub record Listed (n : ℕ) (room₀ : List ℕ) (t : List (List ℕ)) (room : List ℕ) (at k : ℕ) : Type 0 where
+  pub upto : k ≤ n
   pub short : at ≤ 67 * k
   pub stored : Stored room₀ 0 (rowLines t k) at room
 
@@ -122,16 +123,16 @@ lines-next : (t : List (List ℕ)) (k : ℕ) → rowLines t (k + 1) ≡ rowLines
 unfolding rowLines
 lines-next t k = rw add-one refl
 
-module _ (room₀ : List ℕ) (t : List (List ℕ)) where
-  pub listed-none : Listed room₀ t room₀ 0 0
+module _ (n : ℕ) (room₀ : List ℕ) (t : List (List ℕ)) where
+  pub listed-none : Listed n room₀ t room₀ 0 0
   unfolding rowLines
   listed-none = record { upto = omega arith; short = omega arith; stored = stored-nil room₀ 0 }
 
-  module _ (room : List ℕ) (at k : ℕ) (p : Listed room₀ t room at k) where
-    pub listed-room : k < 16 → 1072 ≤ length room₀ → at + 67 ≤ length room
-    listed-room h r = omega (arith, p .short, stored-length (p .stored))
+  module _ (room : List ℕ) (at k : ℕ) (p : Listed n room₀ t room at k) where
+    pub listed-room : (N : ℕ) → n ≡ N → k < n → 67 * N ≤ length room₀ → at + 67 ≤ length room
+    listed-room N e h r = omega (arith, p .short, stored-length (p .stored))
 
-    pub listed-more : k < 16 → (room′ : List ℕ) (next : ℕ) → Stored room at (rowLine t (k + 1)) next room′ → Listed room₀ t room′ next (k + 1)
+    pub listed-more : k < n → (room′ : List ℕ) (next : ℕ) → Stored room at (rowLine t (k + 1)) next room′ → Listed n room₀ t room′ next (k + 1)
     listed-more h room′ next s =
         record {
           upto = omega arith;
@@ -139,5 +140,5 @@ module _ (room₀ : List ℕ) (t : List (List ℕ)) where
           stored = rw lines-next (stored-then (p .stored) s);
         }
 
-    pub listed-all : 16 ≤ k → Stored room₀ 0 (rowLines t 16) at room
-    listed-all h = let e : k ≡ 16 = omega (arith, p .upto) in rw e at (p .stored)
+    pub listed-all : (N : ℕ) → n ≡ N → n ≤ k → Stored room₀ 0 (rowLines t N) at room
+    listed-all N e h = let q : k ≡ N = omega (arith, p .upto) in rw q at (p .stored)

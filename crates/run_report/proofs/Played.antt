@@ -12,6 +12,9 @@ use Rattle.published.specs.Rounds.{Run, newRun, refuse, upTo, runFrom}
 use Rattle.common.proofs.Tests.{clash, split}
 use Rattle.kinds.specs.declared.Step.{Step}
 use Rattle.kinds.specs.Stand.{stepOf}
+use Rattle.kinds.specs.Sizes.{benchesOf, roundsOf}
+use Rattle.kinds.specs.declared.Size.{Size}
+use Rattle.kinds.proofs.Sizes.{benches-fit, rounds-fit, rounds-some}
 use Rattle.tables.specs.Runs.{runOf}
 use Rattle.tables.specs.Sound.{Sound}
 use Rattle.tables.specs.Steps.{Acts, tableStep, emptyTables, refused}
@@ -21,7 +24,8 @@ use Rattle.spelling.specs.declared.Said.{Said}
 use Rattle.spelling.specs.declared.Said.the-variants.{Does, Malformed}
 use Rattle.spelling.specs.declared.Read.the-variants.{Next, End}
 use Rattle.spelling.specs.Lines.{linesOf}
-use Rattle.spelling.specs.Reading.{saidOf, readText, readLineOf}
+use Rattle.spelling.specs.Reading.{saidOf, readLineOf}
+use Rattle.spelling.specs.Text.{readText}
 use Rattle.spelling.specs.Fields.{lineAt, nextAt}
 use Rattle.spelling.proofs.TextTrip.{lines-at, next-above}
 use Rattle.reports.specs.RunReport.{answerTo, answersFrom, stepsOf, runAfter}
@@ -29,34 +33,34 @@ use Rattle.run_report.specs.Parts.{Played}
 
 -- ---- one line
 
-module _ (t l : List (List ℕ)) (s : Sound 16 96 t l) where
+module _ (z : Size) (t l : List (List ℕ)) (s : Sound (benchesOf z) (roundsOf z) t l) where
   -- a step is answered as the tables answer it
-  pub does-links : (x : Said) (a : Step) → x ≡ Does a → (r : ℕ) (t′ l′ : List (List ℕ)) → Acts r t′ l′ (tableStep 16 96 t l (stepOf a))
-      → Links 16 96 (refused r t′ l′) (answerTo (runOf 16 96 t l) x)
+  pub does-links : (x : Said) (a : Step) → x ≡ Does a → (r : ℕ) (t′ l′ : List (List ℕ)) → Acts r t′ l′ (tableStep (benchesOf z) (roundsOf z) t l (stepOf a))
+      → Links (benchesOf z) (roundsOf z) (refused r t′ l′) (answerTo z (runOf t l) x)
   unfolding answerTo
-  does-links x a e r t′ l′ p = rw e (promise-links 16 96 (omega arith) t l s (stepOf a) r t′ l′ p)
+  does-links x a e r t′ l′ p = rw e (promise-links (benchesOf z) (roundsOf z) (rounds-some z) t l s (stepOf a) r t′ l′ p)
 
   -- a malformed line is answered 20, and changes nothing
-  pub malformed-links : (x : Said) → x ≡ Malformed → Links 16 96 (refused 20 t l) (answerTo (runOf 16 96 t l) x)
+  pub malformed-links : (x : Said) → x ≡ Malformed → Links (benchesOf z) (roundsOf z) (refused 20 t l) (answerTo z (runOf t l) x)
   unfolding answerTo refuse
   malformed-links x e = rw e (record { number = refl; run = refl; sound = s })
 
 -- ---- the line at a place, and the others
 
 -- the line x stands at a place, and the next begins at `next`
-pub record Reads (text : List ℕ) (at : ℕ) (x : Said) (next : ℕ) : Type 0 where
-  pub lines : readText 16 (drop at text) ≡ x ∷ readText 16 (drop next text)
+pub record Reads (n : ℕ) (text : List ℕ) (at : ℕ) (x : Said) (next : ℕ) : Type 0 where
+  pub lines : readText n (drop at text) ≡ x ∷ readText n (drop next text)
   pub above : at < next
   pub within : next ≤ length text
 
-module _ (text : List ℕ) (at : ℕ) where
-  pub read-line-reads : (x : Said) (next : ℕ) → readLineOf 16 text at ≡ Next x next → Reads text at x next
+module _ (n : ℕ) (text : List ℕ) (at : ℕ) where
+  pub read-line-reads : (x : Said) (next : ℕ) → readLineOf n text at ≡ Next x next → Reads n text at x next
   unfolding readLineOf readText
   read-line-reads x next e = split (ltb at (length text))
       (λ h.
-      let u : Next (saidOf 16 (lineAt text at)) (nextAt text at) ≡ Next x next = sym (rw h refl) ∙ e in
+      let u : Next (saidOf n (lineAt text at)) (nextAt text at) ≡ Next x next = sym (rw h refl) ∙ e in
       let i = ltb-true at (length text) h in
-      let p : saidOf 16 (lineAt text at) ≡ x = cc in
+      let p : saidOf n (lineAt text at) ≡ x = cc in
       let q : nextAt text at ≡ next = cc in
       record {
         lines = rw (lines-at text at i, p, q) refl;
@@ -65,65 +69,65 @@ module _ (text : List ℕ) (at : ℕ) where
       })
       (λ h. clash (let u : End ≡ Next x next = sym (rw h refl) ∙ e in cc))
 
-  pub read-line-ends : readLineOf 16 text at ≡ End → readText 16 (drop at text) ≡ []
+  pub read-line-ends : readLineOf n text at ≡ End → readText n (drop at text) ≡ []
   unfolding readLineOf readText linesOf
   read-line-ends e = split (ltb at (length text))
-      (λ h. clash (let u : Next (saidOf 16 (lineAt text at)) (nextAt text at) ≡ End = sym (rw h refl) ∙ e in cc))
+      (λ h. clash (let u : Next (saidOf n (lineAt text at)) (nextAt text at) ≡ End = sym (rw h refl) ∙ e in cc))
       (λ h. rw (drop-of-length-le text (ltb-false at (length text) h)) refl)
 
 -- a list of lines played from its first line on
-module _ (s : Run) (x : Said) (m : List Said) where
-  answers-more : (k : List Said) (r : ℕ) (s′ : Run) → k ≡ x ∷ m → answerTo s x .number ≡ r → answerTo s x .run ≡ s′ → answersFrom s k ≡ r ∷ answersFrom s′ m
+module _ (z : Size) (s : Run) (x : Said) (m : List Said) where
+  answers-more : (k : List Said) (r : ℕ) (s′ : Run) → k ≡ x ∷ m → answerTo z s x .number ≡ r → answerTo z s x .run ≡ s′ → answersFrom z s k ≡ r ∷ answersFrom z s′ m
   unfolding answersFrom
-  answers-more k r s′ e n u = ap (answersFrom s) e ∙ ap (λ (a : ℕ). a ∷ answersFrom (answerTo s x .run) m) n ∙ ap (λ (z : Run). r ∷ answersFrom z m) u
+  answers-more k r s′ e n u = ap (answersFrom z s) e ∙ ap (λ (a : ℕ). a ∷ answersFrom z (answerTo z s x .run) m) n ∙ ap (λ (w : Run). r ∷ answersFrom z w m) u
 
-run-more : (s : Run) (x : Said) (m k : List Said) (s′ : Run) → k ≡ x ∷ m → answerTo s x .run ≡ s′
-    → runFrom 16 (upTo 96) s (stepsOf k) ≡ runFrom 16 (upTo 96) s′ (stepsOf m)
+run-more : (z : Size) (s : Run) (x : Said) (m k : List Said) (s′ : Run) → k ≡ x ∷ m → answerTo z s x .run ≡ s′
+    → runFrom (benchesOf z) (upTo (roundsOf z)) s (stepsOf k) ≡ runFrom (benchesOf z) (upTo (roundsOf z)) s′ (stepsOf m)
 unfolding stepsOf runFrom answerTo refuse
-run-more s (Does a) m k s′ e u = rw e (ap (λ (z : Run). runFrom 16 (upTo 96) z (stepsOf m)) u)
-run-more s Malformed m k s′ e u = rw e (ap (λ (z : Run). runFrom 16 (upTo 96) z (stepsOf m)) u)
+run-more z s (Does a) m k s′ e u = rw e (ap (λ (w : Run). runFrom (benchesOf z) (upTo (roundsOf z)) w (stepsOf m)) u)
+run-more z s Malformed m k s′ e u = rw e (ap (λ (w : Run). runFrom (benchesOf z) (upTo (roundsOf z)) w (stepsOf m)) u)
 
 -- ---- the text, line by line
 
 -- the first `count` lines, which stand before the place, are answered; played on from the tables, the others give the rest of the answers.
 -- answers₀ held what was there before
-pub record Playing (text answers₀ : List ℕ) (t l : List (List ℕ)) (answers : List ℕ) (at count : ℕ) : Type 0 where
-  pub sound : Sound 16 96 t l
+pub record Playing (z : Size) (text answers₀ : List ℕ) (t l : List (List ℕ)) (answers : List ℕ) (at count : ℕ) : Type 0 where
+  pub sound : Sound (benchesOf z) (roundsOf z) t l
   pub within : at ≤ length text
   pub few : count ≤ at
   pub long : length answers ≡ length answers₀
   pub room : length text ≤ length answers₀
-  pub answered : answersFrom newRun (readText 16 text) ≡ take count answers ++ answersFrom (runOf 16 96 t l) (readText 16 (drop at text))
-  pub run : runAfter text ≡ runFrom 16 (upTo 96) (runOf 16 96 t l) (stepsOf (readText 16 (drop at text)))
+  pub answered : answersFrom z newRun (readText (benchesOf z) text) ≡ take count answers ++ answersFrom z (runOf t l) (readText (benchesOf z) (drop at text))
+  pub run : runAfter z text ≡ runFrom (benchesOf z) (upTo (roundsOf z)) (runOf t l) (stepsOf (readText (benchesOf z) (drop at text)))
 
-module _ (text answers₀ : List ℕ) where
-  pub playing-none : (t l : List (List ℕ)) → t ≡ emptyTables 16 96 .benches → l ≡ emptyTables 16 96 .logs
-      → length text ≤ length answers₀ → Playing text answers₀ t l answers₀ 0 0
+module _ (z : Size) (text answers₀ : List ℕ) where
+  pub playing-none : (t l : List (List ℕ)) → t ≡ emptyTables .benches → l ≡ emptyTables .logs
+      → length text ≤ length answers₀ → Playing z text answers₀ t l answers₀ 0 0
   playing-none t l et el h =
       rw (et, el)
       (record {
-        sound = empty-sound 16 96;
+        sound = empty-sound (benchesOf z) (roundsOf z) (benches-fit z) (rounds-fit z);
         within = omega arith;
         few = omega arith;
         long = refl;
         room = h;
-        answered = rw (empty-run 16 96) refl;
-        run = rw (empty-run 16 96) refl;
+        answered = rw empty-run refl;
+        run = rw empty-run refl;
       })
 
-  module _ (t l : List (List ℕ)) (answers : List ℕ) (at count : ℕ) (p : Playing text answers₀ t l answers at count) where
+  module _ (t l : List (List ℕ)) (answers : List ℕ) (at count : ℕ) (p : Playing z text answers₀ t l answers at count) where
     -- the next line has room for its answer
-    pub playing-room : (x : Said) (next : ℕ) → readLineOf 16 text at ≡ Next x next → count < length answers
-    playing-room x next e = let d = read-line-reads text at x next e in omega (arith, p .few, p .long, p .room)
+    pub playing-room : (x : Said) (next : ℕ) → readLineOf (benchesOf z) text at ≡ Next x next → count < length answers
+    playing-room x next e = let d = read-line-reads (benchesOf z) text at x next e in omega (arith, p .few, p .long, p .room)
 
     -- less of the text is left
-    pub playing-less : (x : Said) (next : ℕ) → readLineOf 16 text at ≡ Next x next → length text - next < length text - at
-    playing-less x next e = let d = read-line-reads text at x next e in omega arith
+    pub playing-less : (x : Said) (next : ℕ) → readLineOf (benchesOf z) text at ≡ Next x next → length text - next < length text - at
+    playing-less x next e = let d = read-line-reads (benchesOf z) text at x next e in omega arith
 
-    pub playing-more : (x : Said) (next : ℕ) → readLineOf 16 text at ≡ Next x next → (r : ℕ) (t′ l′ : List (List ℕ))
-        → Links 16 96 (refused r t′ l′) (answerTo (runOf 16 96 t l) x) → Playing text answers₀ t′ l′ (set answers count r) next (count + 1)
+    pub playing-more : (x : Said) (next : ℕ) → readLineOf (benchesOf z) text at ≡ Next x next → (r : ℕ) (t′ l′ : List (List ℕ))
+        → Links (benchesOf z) (roundsOf z) (refused r t′ l′) (answerTo z (runOf t l) x) → Playing z text answers₀ t′ l′ (set answers count r) next (count + 1)
     playing-more x next e r t′ l′ k =
-        let d = read-line-reads text at x next e in
+        let d = read-line-reads (benchesOf z) text at x next e in
         record {
           sound = k .sound;
           within = d .within;
@@ -132,15 +136,15 @@ module _ (text answers₀ : List ℕ) where
           room = p .room;
           answered =
               p .answered
-              ∙ ap (λ (z : List ℕ). take count answers ++ z) (answers-more (runOf 16 96 t l) x _ _ r (runOf 16 96 t′ l′) (d .lines) (k .number) (k .run))
+              ∙ ap (λ (q : List ℕ). take count answers ++ q) (answers-more z (runOf t l) x _ _ r (runOf t′ l′) (d .lines) (k .number) (k .run))
               ∙ rw (add-one, take-suc-set answers count r (playing-room x next e)) (sym (append-assoc (take count answers) (r ∷ []) _));
-          run = p .run ∙ run-more (runOf 16 96 t l) x _ _ (runOf 16 96 t′ l′) (d .lines) (k .run);
+          run = p .run ∙ run-more z (runOf t l) x _ _ (runOf t′ l′) (d .lines) (k .run);
         }
 
-    pub playing-all : readLineOf 16 text at ≡ End → Played text t l count answers
+    pub playing-all : readLineOf (benchesOf z) text at ≡ End → Played z text t l count answers
     unfolding answersFrom stepsOf runFrom
     playing-all e =
-        let d = read-line-ends text at e in
+        let d = read-line-ends (benchesOf z) text at e in
         record {
           few = omega (arith, p .few, p .within);
           inside = omega (arith, p .few, p .within, p .long, p .room);

@@ -6,18 +6,20 @@ use mathlib.Core.Path.{_≡_}
 use lib.Dec.{eqb}
 use lib.ListN.{length, take}
 use Rattle.published.specs.Rounds.{newRun}
+use Rattle.kinds.specs.Sizes.{benchesOf}
+use Rattle.kinds.specs.declared.Size.{Size}
 use Rattle.tables.specs.Runs.{stateOf, runOf}
 use Rattle.reads.specs.Reads.{stateWord, sentWord, decisionAt}
 use Rattle.spelling.specs.Numbers.{ascii, digits}
-use Rattle.spelling.specs.Reading.{readText}
+use Rattle.spelling.specs.Text.{readText}
 use Rattle.reports.specs.RunReport.{answersFrom, runAfter, stateText, valueText}
 
 -- the text has n lines, whose answers stand at the front of `answers`, and the tables t and l stand for the run after them
-pub record Played (text : List ℕ) (t l : List (List ℕ)) (n : ℕ) (answers : List ℕ) : Type 0 where
+pub record Played (z : Size) (text : List ℕ) (t l : List (List ℕ)) (n : ℕ) (answers : List ℕ) : Type 0 where
   pub few : n ≤ length text
   pub inside : n ≤ length answers
-  pub answers-are : take n answers ≡ answersFrom newRun (readText 16 text)
-  pub run-is : runOf 16 96 t l ≡ runAfter text
+  pub answers-are : take n answers ≡ answersFrom z newRun (readText (benchesOf z) text)
+  pub run-is : runOf t l ≡ runAfter z text
 
 -- a bench's line, by what is read of the table of benches
 unfoldable pub rowLine : List (List ℕ) → ℕ → List ℕ

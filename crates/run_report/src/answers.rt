@@ -1,9 +1,11 @@
 // One line for each line of the text: its number from 1, and the answer.
 ghost use mathlib.Core.Path.{_≡_};
-ghost use Prim.Native.Nat.{_+_, _≤_};
+ghost use Prim.Native.Nat.{_+_, _*_, _≤_};
 ghost use lib.Dec.{leb};
 ghost use lib.ListN.{length};
 ghost use Rattle.spelling.specs.Stored.{Stored};
+ghost use Rattle.kinds.specs.Sizes.{places};
+ghost use Rattle.reports.specs.Reported.{longest};
 ghost use Rattle.reports.specs.RunReport.{answerLine, answerLines};
 use kinds::AnswerNo;
 use room::answer::put_answer;
@@ -13,7 +15,7 @@ use room::decimal::number_length;
 // Whether the room holds the lines of the answers and n bytes behind them. No line is longer than 34 bytes, so that they are measured
 // for a short room alone.
 pub(crate) fn room_for(room: &[u8], answers: &[u8], n: usize) -> bool
-    requires { ⌜ (length (now answers) ≤ 65536) × (n ≤ 1108) ⌝ }
+    requires { ⌜ (length (now answers) ≤ longest) × (n ≤ 67 * places + 36) ⌝ }
     ensures { λ r. ⌜ r ≡ leb (length (answerLines 1 (now (answers .entry))) + n) (length (now (room .entry))) ⌝ }
 {
     if 34 * answers.len() + n <= room.len() {
@@ -24,7 +26,7 @@ pub(crate) fn room_for(room: &[u8], answers: &[u8], n: usize) -> bool
 
 // How many bytes the lines of the answers have.
 fn answers_length(answers: &[u8]) -> usize
-    requires { ⌜ length (now answers) ≤ 65536 ⌝ }
+    requires { ⌜ length (now answers) ≤ longest ⌝ }
     ensures { λ r. ⌜ r ≡ length (answerLines 1 (now (answers .entry))) ⌝ }
 {
     let mut n = 0;
@@ -44,7 +46,7 @@ fn answer_length(line: u32, answer: AnswerNo) -> usize
 
 // Stores the lines of the answers at the room's front, and answers the place behind them.
 pub(crate) fn store_answers(room: &mut [u8], answers: &[u8]) -> usize
-    requires { ⌜ length (now answers) ≤ 65536 ⌝ }
+    requires { ⌜ length (now answers) ≤ longest ⌝ }
     requires { ⌜ length (answerLines 1 (now answers)) ≤ length (now room) ⌝ }
     ensures { λ r. ⌜ Stored (now (room .entry)) 0 (answerLines 1 (now (answers .entry))) r (now (room .exit)) ⌝ }
 {

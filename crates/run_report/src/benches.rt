@@ -1,12 +1,19 @@
 // One line for each bench that is not fresh, in rising number: state, last round sent or 0, decided value or `none`.
-ghost use Prim.Native.Nat.{_+_, _≤_};
+ghost use Prim.Native.Nat.{_+_, _*_, _≤_};
 ghost use lib.ListN.{length};
 ghost use Rattle.spelling.specs.Stored.{Stored, fitting};
+ghost use Rattle.kinds.specs.Sizes.{benchesOf};
 ghost use Rattle.tables.specs.Runs.{stateOf};
 ghost use Rattle.reads.specs.Decisions.{decisionIs};
 ghost use Rattle.reports.specs.RunReport.{stateText, valueText};
 ghost use Rattle.run_report.specs.Parts.{rowLine, rowLines};
+use bench::ABSTAINED;
+use bench::DECIDED;
+use bench::FRESH;
+use bench::LEFT;
+use bench::RUNNING;
 use kinds::BenchNo;
+use kinds::Size;
 use reads::Decision;
 use reads::decision_of;
 use reads::sent_of;
@@ -14,15 +21,17 @@ use reads::state_of;
 use room::bytes::put_bytes;
 use room::decimal::put_field;
 use room::decimal::put_number;
+use sets::benches_of;
 use tables::Benches;
 
 // Stores the lines of the benches at the room's front, and answers the place behind them. None is longer than 67 bytes.
-pub(crate) fn store_benches(room: &mut [u8], benches: &Benches) -> usize
-    requires { ⌜ 1072 ≤ length (now room) ⌝ }
-    ensures { λ r. ⌜ Stored (now (room .entry)) 0 (rowLines (now (benches .entry)) 16) r (now (room .exit)) ⌝ }
+pub(crate) fn store_benches(room: &mut [u8], benches: &Benches, size: Size) -> usize
+    requires { ⌜ 67 * benchesOf size ≤ length (now room) ⌝ }
+    ensures { λ r. ⌜ Stored (now (room .entry)) 0 (rowLines (now (benches .entry)) (benchesOf size)) r (now (room .exit)) ⌝ }
 {
     let mut at = 0;
-    for k in 0..16u32 {
+    let n = benches_of(size);
+    for k in 0..n {
         let b = k + 1;
         at = store_bench(room, at, benches, BenchNo(b));
     }
@@ -35,7 +44,7 @@ fn store_bench(room: &mut [u8], at: usize, benches: &Benches, bench: BenchNo) ->
     ensures { λ r. ⌜ Stored (now (room .entry)) at (rowLine (now (benches .entry)) (bench .0)) r (now (room .exit)) ⌝ }
 {
     let state = state_of(benches, bench);
-    if state == 0 {
+    if state == FRESH {
         return at;
     }
     let sent = sent_of(benches, bench);
@@ -53,11 +62,11 @@ fn put_state_name(room: &mut [u8], at: usize, state: u32) -> usize
     ensures { λ r. ⌜ Stored (now (room .entry)) at (fitting (now (room .entry)) at (stateText (stateOf state))) r (now (room .exit)) ⌝ }
 {
     match state {
-        0 => put_bytes(room, at, b"fresh"),
-        1 => put_bytes(room, at, b"running"),
-        2 => put_bytes(room, at, b"decided"),
-        3 => put_bytes(room, at, b"abstained"),
-        4 => put_bytes(room, at, b"left"),
+        FRESH => put_bytes(room, at, b"fresh"),
+        RUNNING => put_bytes(room, at, b"running"),
+        DECIDED => put_bytes(room, at, b"decided"),
+        ABSTAINED => put_bytes(room, at, b"abstained"),
+        LEFT => put_bytes(room, at, b"left"),
         _ => put_bytes(room, at, b"failed"),
     }
 }

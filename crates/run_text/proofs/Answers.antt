@@ -8,6 +8,7 @@ use mathlib.Core.Path.{_≡_, refl, sym, ap, _∙_}
 use lib.Dec.{leb}
 use lib.ListN.{length, set, length-append}
 use borrow.Author.Tests.{not-true, not-false}
+use Rattle.common.specs.Checks.{judge}
 use Rattle.kinds.specs.declared.BenchNo.{BenchNo}
 use Rattle.kinds.specs.declared.SlotNo.{SlotNo}
 use Rattle.kinds.specs.declared.Step.{Step}
@@ -15,7 +16,7 @@ use Rattle.kinds.specs.declared.Step.the-variants.{Start, Abstain, Leave, Fail,
 use Rattle.spelling.specs.declared.Written.the-variants.{Bytes, Refused}
 use Rattle.spelling.specs.Numbers.{ascii, digits}
 use Rattle.spelling.specs.Spelling.{members, worldText, stepText, isWritable}
-use Rattle.spelling.specs.Text.{lineText, writeLineOf, roomAfter}
+use Rattle.spelling.specs.Text.{lineText, writtenOf, numberFor, writeLineOf, roomAfter}
 use Rattle.spelling.specs.Stored.{Stored, fits}
 use Rattle.spelling.proofs.Decimals.{digits-length}
 use Rattle.spelling.proofs.Members.{members-odd, members-even, members-nil}
@@ -96,7 +97,7 @@ with-end s p = stored-then p (stored-one _ _ 10)
 
 module _ (limit : ℕ) (s : Step) (room : List ℕ) (at : ℕ) {t : Bool} (e : t ≡ isWritable limit s) where
   pub not-writable : not t ≡ true → (Refused 21 ≡ writeLineOf limit s room at) × (room ≡ roomAfter limit s room at)
-  unfolding writeLineOf roomAfter
+  unfolding writeLineOf roomAfter writtenOf numberFor judge
   not-writable h = let w : isWritable limit s ≡ false = sym e ∙ not-true t h in (rw w refl, rw w refl)
 
   module _ (h : not t ≡ false) {n : ℕ} (len : n ≡ length (stepText s)) {r : Bool} (has : r ≡ leb (at + (n + 1)) (length room)) where
@@ -108,14 +109,14 @@ module _ (limit : ℕ) (s : Step) (room : List ℕ) (at : ℕ) {t : Bool} (e : t
     fitting = let g : length (lineText s) ≡ n + 1 = line-length s ∙ ap (λ (k : ℕ). k + 1) (sym len) in rw g (sym has)
 
     pub no-room : not r ≡ true → (Refused 22 ≡ writeLineOf limit s room at) × (room ≡ roomAfter limit s room at)
-    unfolding writeLineOf roomAfter
+    unfolding writeLineOf roomAfter writtenOf numberFor judge
     no-room q = let f : fits room at (lineText s) ≡ false = fitting ∙ not-true r q in (rw (writable, f) refl, rw (writable, f) refl)
 
     pub has-room : not r ≡ false → at + (length (stepText s) + 1) ≤ length room
     has-room q = rw (← len) (room-is has q)
 
     pub line-written : not r ≡ false → {end : ℕ} {l : List ℕ} → Stored room at (stepText s) end l → (Bytes (n + 1) ≡ writeLineOf limit s room at) × (set l end 10 ≡ roomAfter limit s room at)
-    unfolding writeLineOf roomAfter
+    unfolding writeLineOf roomAfter writtenOf numberFor judge
     line-written q p =
         let f : fits room at (lineText s) ≡ true = fitting ∙ not-false r q in
         let g : n + 1 ≡ length (lineText s) = ap (λ (k : ℕ). k + 1) len ∙ sym (line-length s) in

@@ -1,29 +1,63 @@
 // The numbers of benches, their places, and sets of benches as words: place k, which is bench k + 1, is bit k. A word has no place past 31.
 
 ghost use mathlib.Core.Path.{_≡_};
-ghost use Prim.Native.Nat.{_%_, _^_, _<_};
+ghost use Prim.Native.Nat.{_%_, _^_, _<_, _≤_};
+ghost use lib.Dec.{ltb};
 ghost use Rattle.common.specs.Benches.{isBench};
 ghost use Rattle.common.specs.Places.{has, placeOf};
+ghost use Rattle.kinds.specs.Sizes.{benchesOf, roundsOf, places, depth};
 use kinds::BenchNo;
+use kinds::PLACES;
+use kinds::Size;
 
-// Whether a number is a bench's: 1 to 16.
-pub fn is_bench(bench: BenchNo) -> bool
-    ensures { λ r. ⌜ r ≡ isBench 16 (bench .0) ⌝ }
+// How many benches, or senders, there are.
+pub fn benches_of(size: Size) -> u32
+    ensures { λ r. ⌜ (r ≡ benchesOf size) × (r ≤ places) ⌝ }
+{
+    match size {
+        Size::Sixteen => 16,
+    }
+}
+
+// How many rounds a bench may send.
+pub fn rounds_of(size: Size) -> u32
+    ensures { λ r. ⌜ (r ≡ roundsOf size) × (1 ≤ r) × (r ≤ depth) ⌝ }
+{
+    match size {
+        Size::Sixteen => 96,
+    }
+}
+
+// Whether a number is a bench's: 1 to as many as there are.
+pub fn is_bench(bench: BenchNo, size: Size) -> bool
+    ensures { λ r. ⌜ r ≡ isBench (benchesOf size) (bench .0) ⌝ }
 {
     if bench.0 < 1 {
         return false;
     }
-    bench.0 <= 16
+    bench.0 <= benches_of(size)
 }
 
-// The place of a bench; of a number that is no bench's, that of the first.
+// The place of a bench in a table; of a number that has none, the first.
 pub fn place(bench: BenchNo) -> usize
-    ensures { λ r. ⌜ (r ≡ placeOf 16 (bench .0)) × (r < 16) ⌝ }
+    ensures { λ r. ⌜ (r ≡ placeOf places (bench .0)) × (r < places) ⌝ }
 {
-    if !is_bench(bench) {
+    if bench.0 < 1 {
         return 0;
     }
-    (bench.0 - 1) as usize
+    let k = (bench.0 - 1) as usize;
+    if k < PLACES { k } else { 0 }
+}
+
+// Whether a world names only benches that there are.
+pub fn fits(world: u32, size: Size) -> bool
+    ensures { λ r. ⌜ r ≡ ltb world (2 ^ benchesOf size) ⌝ }
+{
+    let n = benches_of(size);
+    if 31 < n {
+        return true;
+    }
+    (world >> n) == 0
 }
 
 // Whether the set has place k.

@@ -15,6 +15,7 @@ use Rattle.bench.specs.declared.Bench.{Bench}
 use Rattle.bench.specs.declared.Waiting.{Waiting}
 use Rattle.bench.specs.declared.Waiting.the-variants.{Next, Nothing}
 use Rattle.bench.specs.Changes.{takeOf, takeFrom, noticeOf, noticeFrom}
+use Rattle.kinds.specs.Sizes.{places}
 use Rattle.tables.specs.Rows.{rows}
 use Rattle.tables.specs.Steps.{Act, stored, takeNext, nextOn, arriveAt, noticeAt, atBenches, tableStep}
 
@@ -38,44 +39,44 @@ module _ (N R : ℕ) (t l : List (List ℕ)) where
       (λ e. clash (let p : 1 ≡ 0 = sym (rw e refl) ∙ z in omega arith))
 
   -- what an arrive that is answered 0 took, and the row that it leaves
-  takes : (k j : ℕ) → arriveAt N R t l k j .answer ≡ 0
-      → (m : Message) × (nextOn N R t l k j ≡ Next m) × (arriveAt N R t l k j .tables ≡ stored N t l k (takeOf (rows N t k) j m))
+  takes : (k j : ℕ) → arriveAt t l k j .answer ≡ 0
+      → (m : Message) × (nextOn t l k j ≡ Next m) × (arriveAt t l k j .tables ≡ stored t l k (takeOf (rows places t k) j m))
   unfolding arriveAt takeNext
-  takes k j z = split (ltb 1 (rows N t k .state))
+  takes k j z = split (ltb 1 (rows places t k .state))
       (λ e. clash (let p : 3 ≡ 0 = sym (rw e refl) ∙ z in omega arith))
-      (λ e. split (has (rows N t k .noticed) j)
+      (λ e. split (has (rows places t k .noticed) j)
       (λ o. clash (let p : 9 ≡ 0 = sym (rw (e, o) refl) ∙ z in omega arith))
       (λ o.
-      let whole : arriveAt N R t l k j ≡ takeNext N t l k j (nextOn N R t l k j) = rw (e, o) refl in
-      let w = next (nextOn N R t l k j) (ap (λ (a : Act). a .answer) (sym whole) ∙ z) in
+      let whole : arriveAt t l k j ≡ takeNext t l k j (nextOn t l k j) = rw (e, o) refl in
+      let w = next (nextOn t l k j) (ap (λ (a : Act). a .answer) (sym whole) ∙ z) in
       (w .0, w .1, ap (λ (a : Act). a .tables) whole ∙ w .2)))
     where
-      next : (q : Waiting) → takeNext N t l k j q .answer ≡ 0 → (m : Message) × (q ≡ Next m) × (takeNext N t l k j q .tables ≡ stored N t l k (takeOf (rows N t k) j m))
+      next : (q : Waiting) → takeNext t l k j q .answer ≡ 0 → (m : Message) × (q ≡ Next m) × (takeNext t l k j q .tables ≡ stored t l k (takeOf (rows places t k) j m))
       next (Next m) y = (m, refl, refl)
       next Nothing y = clash (omega arith)
 
-  notices : (k j : ℕ) → noticeAt N t l k j .answer ≡ 0 → noticeAt N t l k j .tables ≡ stored N t l k (noticeOf (rows N t k) j)
+  notices : (k j : ℕ) → noticeAt t l k j .answer ≡ 0 → noticeAt t l k j .tables ≡ stored t l k (noticeOf (rows places t k) j)
   unfolding noticeAt
-  notices k j z = split (ltb 1 (rows N t k .state))
+  notices k j z = split (ltb 1 (rows places t k .state))
       (λ e. clash (let p : 3 ≡ 0 = sym (rw e refl) ∙ z in omega arith))
-      (λ e. split (ltb 4 (rows N t j .state))
-      (λ o. split (has (rows N t k .noticed) j)
+      (λ e. split (ltb 4 (rows places t j .state))
+      (λ o. split (has (rows places t k .noticed) j)
       (λ h. clash (let p : 9 ≡ 0 = sym (rw (e, o, h) refl) ∙ z in omega arith))
       (λ h. rw (e, o, h) refl))
       (λ o. clash (let p : 10 ≡ 0 = sym (rw (e, o) refl) ∙ z in omega arith)))
 
   pub arrive-by-value : (b f : ℕ) → tableStep N R t l (arrive b f) .answer ≡ 0
-      → (m : Message) × (nextOn N R t l (b - 1) (f - 1) ≡ Next m) × (tableStep N R t l (arrive b f) .tables ≡ stored N t l (b - 1) (takeFrom N (rows N t (b - 1)) f m))
+      → (m : Message) × (nextOn t l (b - 1) (f - 1) ≡ Next m) × (tableStep N R t l (arrive b f) .tables ≡ stored t l (b - 1) (takeFrom N (rows places t (b - 1)) f m))
   unfolding tableStep
   arrive-by-value b f z =
-      let p = at-places (arriveAt N R t l) b f z in
+      let p = at-places (arriveAt t l) b f z in
       let w = takes (b - 1) (f - 1) (ap (λ (a : Act). a .answer) (sym (p .1)) ∙ z) in
-      (w .0, w .1, ap (λ (a : Act). a .tables) (p .1) ∙ rw (take-at N f (rows N t (b - 1)) (w .0) (p .0)) (w .2))
+      (w .0, w .1, ap (λ (a : Act). a .tables) (p .1) ∙ rw (take-at N f (rows places t (b - 1)) (w .0) (p .0)) (w .2))
 
   pub notice-by-value : (b f : ℕ) → tableStep N R t l (notice b f) .answer ≡ 0
-      → tableStep N R t l (notice b f) .tables ≡ stored N t l (b - 1) (noticeFrom N (rows N t (b - 1)) f)
+      → tableStep N R t l (notice b f) .tables ≡ stored t l (b - 1) (noticeFrom N (rows places t (b - 1)) f)
   unfolding tableStep
   notice-by-value b f z =
-      let p = at-places (noticeAt N t l) b f z in
+      let p = at-places (noticeAt t l) b f z in
       ap (λ (a : Act). a .tables) (p .1)
-      ∙ rw (notice-at N f (rows N t (b - 1)) (p .0)) (notices (b - 1) (f - 1) (ap (λ (a : Act). a .answer) (sym (p .1)) ∙ z))
+      ∙ rw (notice-at N f (rows places t (b - 1)) (p .0)) (notices (b - 1) (f - 1) (ap (λ (a : Act). a .answer) (sym (p .1)) ∙ z))

@@ -16,13 +16,15 @@ use Rattle.common.proofs.Tests.{split}
 use Rattle.common.proofs.Updates.{put-ind, put-same, put-other, put-self}
 use Rattle.bench.specs.declared.Bench.{Bench}
 use Rattle.common.specs.Places.{has}
+use Rattle.kinds.specs.Sizes.{places, depth}
 use Rattle.tables.specs.Rows.{rowOf, rows, logs}
 use Rattle.tables.specs.Steps.{refused, acted, stored}
 use Rattle.tables.specs.Runs.{lineOf, takenBy, benchOf, runBy, runOf}
 use Rattle.tables.specs.Sound.{Fit, Ok, Sound}
 use Rattle.tables.specs.Meets.{Links}
+use Rattle.tables.specs.Local.{KeepsRounds}
 use Rattle.tables.proofs.Rows.{rows-set, logs-set}
-use Rattle.tables.proofs.Lines.{KeepsRounds, keeps-all, line-kept}
+use Rattle.tables.proofs.Lines.{keeps-all, line-kept}
 
 -- two published benches are equal by their parts
 pub bench-path : (x y : published.Bench) → x .state ≡ y .state → x .round ≡ y .round → x .value ≡ y .value → x .world ≡ y .world
@@ -37,46 +39,46 @@ pub record Grows (b b′ : Bench) : Type 0 where
 
 -- what bench k of benches B with logs L can become, with its log: every step shows this of its bench
 pub record Becomes (N R : ℕ) (B : ℕ → Bench) (L : ℕ → List ℕ) (k : ℕ) (b : Bench) (log : List ℕ) : Type 0 where
-  pub size : length log ≡ R + R
-  pub keeps : KeepsRounds R (L k) log (B k .sent)
+  pub size : length log ≡ depth + depth
+  pub keeps : KeepsRounds (L k) log (B k .sent)
   pub grows : Grows (B k) b
   pub fit : Fit N R b
   pub own : getD (b .taken) k 0 ≡ b .sent
   pub own-out : has (b .outs) k ≡ eqb (b .silent) 1
   pub line : (j : ℕ) → (j ≡ k → ⊥) → getD (b .taken) j 0 ≤ B j .sent
   pub end : (j : ℕ) → (j ≡ k → ⊥) → has (b .outs) j ≡ true → (eqb (B j .silent) 1 ≡ true) × (getD (b .taken) j 0 ≡ B j .sent)
-  pub worlds : (i : ℕ) → i < b .sent → getD log (i + R) 0 < 2 ^ N
+  pub worlds : (i : ℕ) → i < b .sent → getD log (i + depth) 0 < 2 ^ N
 
 module _ (N R : ℕ) where
   module _ (B : ℕ → Bench) (L : ℕ → List ℕ) (ok : Ok N R B L) (k : ℕ) (b : Bench) (log : List ℕ) (m : Becomes N R B L k b log) where
     -- ---- the run
 
     -- what others have taken of the log stays
-    taken-same : (i : ℕ) → takenBy R (put L k log) i (B i) ≡ takenBy R L i (B i)
+    taken-same : (i : ℕ) → takenBy (put L k log) i (B i) ≡ takenBy L i (B i)
     unfolding takenBy
     taken-same i = fun-ext go
       where
-        go : (f : ℕ) → takenBy R (put L k log) i (B i) f ≡ takenBy R L i (B i) f
+        go : (f : ℕ) → takenBy (put L k log) i (B i) f ≡ takenBy L i (B i) f
         go zero = refl
         go (suc j) =
             let n = getD (B i .taken) j 0 in let o = has (B i .outs) j in
-            put-ind (λ (y : List ℕ). cond (eqb j i) [] (lineOf R y n o) ≡ cond (eqb j i) [] (lineOf R (L j) n o)) L k log j
-            (λ e. rw (line-kept R (L k) log (B k .sent) (m .keeps) n (rw (← e) (ok .line i j)) o, e) refl)
+            put-ind (λ (y : List ℕ). cond (eqb j i) [] (lineOf y n o) ≡ cond (eqb j i) [] (lineOf (L j) n o)) L k log j
+            (λ e. rw (line-kept (L k) log (B k .sent) (m .keeps) n (rw (← e) (ok .line i j)) o, e) refl)
             (λ e. refl)
 
-    other-same : (i : ℕ) → (i ≡ k → ⊥) → benchOf R (put L k log) i (B i) ≡ benchOf R L i (B i)
+    other-same : (i : ℕ) → (i ≡ k → ⊥) → benchOf (put L k log) i (B i) ≡ benchOf L i (B i)
     unfolding benchOf
     other-same i ne = bench-path _ _ refl refl refl refl (rw (put-other L k log i ne) refl) (taken-same i) refl refl
 
-    run-change : runBy R (put B k b) (put L k log) ≡ put (runBy R B L) (suc k) (benchOf R (put L k log) k b)
+    run-change : runBy (put B k b) (put L k log) ≡ put (runBy B L) (suc k) (benchOf (put L k log) k b)
     unfolding runBy
     run-change = fun-ext go
       where
-        go : (f : ℕ) → runBy R (put B k b) (put L k log) f ≡ put (runBy R B L) (suc k) (benchOf R (put L k log) k b) f
-        go zero = sym (put-other (runBy R B L) (suc k) (benchOf R (put L k log) k b) 0 (λ e. absurd (omega arith)))
-        go (suc i) = put-ind (λ (y : Bench). benchOf R (put L k log) i y ≡ put (runBy R B L) (suc k) (benchOf R (put L k log) k b) (suc i)) B k b i
-            (λ e. rw e (sym (put-same (runBy R B L) (suc k) (benchOf R (put L k log) k b))))
-            (λ e. other-same i e ∙ sym (put-other (runBy R B L) (suc k) (benchOf R (put L k log) k b) (suc i) (λ p. e (omega arith))))
+        go : (f : ℕ) → runBy (put B k b) (put L k log) f ≡ put (runBy B L) (suc k) (benchOf (put L k log) k b) f
+        go zero = sym (put-other (runBy B L) (suc k) (benchOf (put L k log) k b) 0 (λ e. absurd (omega arith)))
+        go (suc i) = put-ind (λ (y : Bench). benchOf (put L k log) i y ≡ put (runBy B L) (suc k) (benchOf (put L k log) k b) (suc i)) B k b i
+            (λ e. rw e (sym (put-same (runBy B L) (suc k) (benchOf (put L k log) k b))))
+            (λ e. other-same i e ∙ sym (put-other (runBy B L) (suc k) (benchOf (put L k log) k b) (suc i) (λ p. e (omega arith))))
 
     -- ---- what holds after
 
@@ -106,52 +108,54 @@ module _ (N R : ℕ) where
           (λ e. put-ind (λ (y : Bench). End (B i) j y) B k b j
           (λ e′ o. let p = ok .end i j o in let s = m .grows .still (rw e′ at (p .0)) in (s .0, p .1 ∙ ap (λ (x : ℕ). B x .sent) e′ ∙ s .1))
           (λ e′. ok .end i j));
-      worlds = λ i. put-ind (λ (y : Bench). (q : ℕ) → q < y .sent → getD (put L k log i) (q + R) 0 < 2 ^ N) B k b i
+      worlds = λ i. put-ind (λ (y : Bench). (q : ℕ) → q < y .sent → getD (put L k log i) (q + depth) 0 < 2 ^ N) B k b i
           (λ e q h. rw (e, put-same) (m .worlds q h))
           (λ e q h. rw (put-other L k log i e) (ok .worlds i q h));
     }
 
   module _ (t l : List (List ℕ)) (s : Sound N R t l) where
     -- nothing changes
-    pub refused-links : (n : ℕ) → Links N R (refused n t l) (refuse n (runOf N R t l))
+    pub refused-links : (n : ℕ) → Links N R (refused n t l) (refuse n (runOf t l))
     unfolding refuse
     refused-links n = record { number = refl; run = refl; sound = s }
 
     module _ (k : ℕ) (h : k < N) (b : Bench) where
       -- bench k is now b with this log, and stands for x
-      pub changes : (log : List ℕ) → Becomes N R (rows N t) (logs l) k b log → (x : published.Bench) → benchOf R (put (logs l) k log) k b ≡ x
-          → Links N R (acted (stored N t (set l k log) k b)) (done (put (runOf N R t l) (suc k) x))
+      pub changes : (log : List ℕ) → Becomes N R (rows places t) (logs l) k b log → (x : published.Bench) → benchOf (put (logs l) k log) k b ≡ x
+          → Links N R (acted (stored t (set l k log) k b)) (done (put (runOf t l) (suc k) x))
       unfolding done runOf
       changes log m x e =
-          let p = rows-set N t k b (omega (arith, s .benches)) (m .fit .size) in
-          let q = logs-set l k log (omega (arith, s .books)) in
+          let p = rows-set places t k b (omega (arith, s .benches, s .fits)) (m .fit .size) in
+          let q = logs-set l k log (omega (arith, s .books, s .fits)) in
           record {
             number = refl;
-            run = sym (ap₂ (runBy R) p q ∙ run-change (rows N t) (logs l) (s .ok) k b log m ∙ ap (put (runBy R (rows N t) (logs l)) (suc k)) e);
+            run = sym (ap₂ runBy p q ∙ run-change (rows places t) (logs l) (s .ok) k b log m ∙ ap (put (runBy (rows places t) (logs l)) (suc k)) e);
             sound = record {
-              benches = length-set t k (rowOf N b) ∙ s .benches;
+              fits = s .fits;
+              deep = s .deep;
+              benches = length-set t k (rowOf places b) ∙ s .benches;
               books = length-set l k log ∙ s .books;
-              places = λ i hi. split (eqb i k)
-                  (λ c. rw (eqb-true i k c, getD-set-same l k log [] (omega (arith, s .books))) (m .size))
-                  (λ c. rw (getD-set-other l k i log [] (eqb-false i k c)) (s .places i hi));
+              logs = λ i hi. split (eqb i k)
+                  (λ c. rw (eqb-true i k c, getD-set-same l k log [] (omega (arith, s .books, s .fits))) (m .size))
+                  (λ c. rw (getD-set-other l k i log [] (eqb-false i k c)) (s .logs i hi));
               ok = subst (λ (P : ℕ → Bench). Ok N R P (logs (set l k log))) (sym p)
-                  (subst (λ (Q : ℕ → List ℕ). Ok N R (put (rows N t) k b) Q) (sym q) (ok-change (rows N t) (logs l) (s .ok) k b log m));
+                  (subst (λ (Q : ℕ → List ℕ). Ok N R (put (rows places t) k b) Q) (sym q) (ok-change (rows places t) (logs l) (s .ok) k b log m));
             };
           }
 
       -- the same where the log stays
-      pub remains : Becomes N R (rows N t) (logs l) k b (logs l k) → (x : published.Bench) → benchOf R (logs l) k b ≡ x
-          → Links N R (acted (stored N t l k b)) (done (put (runOf N R t l) (suc k) x))
+      pub remains : Becomes N R (rows places t) (logs l) k b (logs l k) → (x : published.Bench) → benchOf (logs l) k b ≡ x
+          → Links N R (acted (stored t l k b)) (done (put (runOf t l) (suc k) x))
       remains m x e =
-          subst (λ (r : List (List ℕ)). Links N R (acted (stored N t r k b)) (done (put (runOf N R t l) (suc k) x))) (set-getD l k [])
-          (changes (logs l k) m x (ap (λ (Q : ℕ → List ℕ). benchOf R Q k b) (put-self (logs l) k) ∙ e))
+          subst (λ (r : List (List ℕ)). Links N R (acted (stored t r k b)) (done (put (runOf t l) (suc k) x))) (set-getD l k [])
+          (changes (logs l k) m x (ap (λ (Q : ℕ → List ℕ). benchOf Q k b) (put-self (logs l) k) ∙ e))
 
       -- b has sent and taken what bench k has
-      pub idle : Fit N R b → b .sent ≡ rows N t k .sent → b .silent ≡ rows N t k .silent → b .outs ≡ rows N t k .outs → b .taken ≡ rows N t k .taken
-          → Becomes N R (rows N t) (logs l) k b (logs l k)
+      pub idle : Fit N R b → b .sent ≡ rows places t k .sent → b .silent ≡ rows places t k .silent → b .outs ≡ rows places t k .outs → b .taken ≡ rows places t k .taken
+          → Becomes N R (rows places t) (logs l) k b (logs l k)
       idle fit e₁ e₂ e₃ e₄ = record {
-        size = s .places k h;
-        keeps = keeps-all R (logs l k) (rows N t k .sent);
+        size = s .logs k (omega (arith, s .fits));
+        keeps = keeps-all (logs l k) (rows places t k .sent);
         grows = record { more = omega arith; still = λ g. (rw e₂ g, sym e₁) };
         fit = fit;
         own = rw (e₄, e₁) (s .ok .own k);

@@ -31,7 +31,7 @@ place N b e = let h = bench-in N b e in (omega arith, omega arith)
 
 module _ (N R : ℕ) (t l : List (List ℕ)) (s : Sound N R t l) where
   abbrev run : Run
-  run = runOf N R t l
+  run = runOf t l
 
   -- the published refusal
   abbrev no : ℕ → Answer

@@ -4,10 +4,11 @@ use mathlib.Core.List.{List}
 use Prim.Native.Nat.{ℕ, suc}
 use borrow.Author.Tests.{eq-eqb}
 use Rattle.published.specs.Rounds.{chosen}
+use Rattle.kinds.specs.Sizes.{places}
 use Rattle.tables.specs.Rows.{rows}
 use Rattle.tables.specs.Runs.{decisionOf, benchOf, runBy, runOf}
 
 -- a bench that chose has decided its value
-pub decision-is : (N R : ℕ) (t l : List (List ℕ)) (k : ℕ) → rows N t k .chose ≡ 1 → runOf N R t l (suc k) .decision ≡ chosen (rows N t k .value .0)
+pub decision-is : (t l : List (List ℕ)) (k : ℕ) → rows places t k .chose ≡ 1 → runOf t l (suc k) .decision ≡ chosen (rows places t k .value .0)
 unfolding runOf runBy benchOf decisionOf
-decision-is N R t l k e = rw (eq-eqb (rows N t k .chose) 1 e) refl
+decision-is t l k e = rw (eq-eqb (rows places t k .chose) 1 e) refl

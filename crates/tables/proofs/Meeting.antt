@@ -3,6 +3,7 @@ use mathlib.Core.Path.{refl, ap, subst}
 use mathlib.Core.List.{List, [], _∷_}
 use Prim.Native.Nat.{ℕ, _≤_}
 use Rattle.published.specs.Rounds.{Step, runFrom, answers, newRun}
+use Rattle.kinds.specs.Sizes.{places, depth}
 use Rattle.tables.specs.Steps.{Tables, tableStep, tablesFrom, tableAnswers, emptyTables}
 use Rattle.tables.specs.Runs.{runOf}
 use Rattle.tables.specs.Sound.{Sound}
@@ -11,7 +12,7 @@ use Rattle.tables.proofs.Steps.{links}
 use Rattle.tables.proofs.Empty.{empty-sound, empty-run}
 
 module _ (N R : ℕ) (hR : 1 ≤ R) where
-  sound-meet : (e : Tables) → Sound N R (e .benches) (e .logs) → (l : List Step) → Meets N R e l (runOf N R (e .benches) (e .logs))
+  sound-meet : (e : Tables) → Sound N R (e .benches) (e .logs) → (l : List Step) → Meets N R e l (runOf (e .benches) (e .logs))
   unfolding answers tableAnswers runFrom tablesFrom
   sound-meet e s [] = record { answers-are = refl; run-is = refl; stays = s }
   sound-meet e s (a ∷ l) =
@@ -23,5 +24,5 @@ module _ (N R : ℕ) (hR : 1 ≤ R) where
         stays = m .stays;
       }
 
-  pub empty-meet : (l : List Step) → Meets N R (emptyTables N R) l newRun
-  empty-meet l = subst (Meets N R (emptyTables N R) l) (empty-run N R) (sound-meet (emptyTables N R) (empty-sound N R) l)
+  pub empty-meet : N ≤ places → R ≤ depth → (l : List Step) → Meets N R emptyTables l newRun
+  empty-meet fits deep l = subst (Meets N R emptyTables l) empty-run (sound-meet emptyTables (empty-sound N R fits deep) l)

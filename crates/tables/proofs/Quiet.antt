@@ -12,6 +12,7 @@ use Rattle.common.proofs.Updates.{put-ind, put-other}
 use Rattle.bench.specs.declared.Bench.{Bench}
 use Rattle.common.specs.Places.{has}
 use Rattle.bench.specs.Changes.{noticeOf, inState}
+use Rattle.kinds.specs.Sizes.{places}
 use Rattle.tables.specs.Rows.{rows, logs}
 use Rattle.tables.specs.Steps.{acted, stored}
 use Rattle.tables.specs.Runs.{stateOf, takenBy, noticedBy, benchOf, runBy, runOf}
@@ -51,24 +52,24 @@ module _ (N R : ℕ) where
 
   module _ (t l : List (List ℕ)) (s : Sound N R t l) (k : ℕ) (h : k < N) where
     abbrev b : Bench
-    b = rows N t k
+    b = rows places t k
 
-    taken-same : (b′ : Bench) → b′ .taken ≡ b .taken → b′ .outs ≡ b .outs → takenBy R (logs l) k b′ ≡ takenBy R (logs l) k b
+    taken-same : (b′ : Bench) → b′ .taken ≡ b .taken → b′ .outs ≡ b .outs → takenBy (logs l) k b′ ≡ takenBy (logs l) k b
     unfolding takenBy
     taken-same b′ p q = fun-ext go
       where
-        go : (f : ℕ) → takenBy R (logs l) k b′ f ≡ takenBy R (logs l) k b f
+        go : (f : ℕ) → takenBy (logs l) k b′ f ≡ takenBy (logs l) k b f
         go zero = refl
         go (suc j) = rw (p, q) refl
 
     pub goes-quietly : (st : ℕ) → 4 ≤ st
-        → Links N R (acted (stored N t l k (inState st b))) (done (put (runOf N R t l) (suc k) (published.inState (stateOf st) (runOf N R t l (suc k)))))
+        → Links N R (acted (stored t l k (inState st b))) (done (put (runOf t l) (suc k) (published.inState (stateOf st) (runOf t l (suc k)))))
     unfolding inState published.inState benchOf runOf runBy
     goes-quietly st hs =
         remains N R t l s k h (inState st b) (idle N R t l s k h (inState st b) (fit-gone b st hs (s .ok .fit k)) refl refl refl refl) _
         (bench-path _ _ refl refl refl refl refl (taken-same (inState st b) refl refl) refl refl)
 
-    pub notices : (j : ℕ) → Links N R (acted (stored N t l k (noticeOf b j))) (done (put (runOf N R t l) (suc k) (noticing (suc j) (runOf N R t l (suc k)))))
+    pub notices : (j : ℕ) → Links N R (acted (stored t l k (noticeOf b j))) (done (put (runOf t l) (suc k) (noticing (suc j) (runOf t l (suc k)))))
     unfolding noticeOf noticing benchOf runOf runBy
     notices j =
         remains N R t l s k h (noticeOf b j) (idle N R t l s k h (noticeOf b j) (fit-notice b j (s .ok .fit k)) refl refl refl refl) _

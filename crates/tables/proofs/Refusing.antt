@@ -3,6 +3,7 @@ use mathlib.Core.Path.{_≡_, refl, _∙_}
 use mathlib.Core.Bool.{Bool, true, false, cond, _&&_}
 use lib.Dec.{eqb, ltb}
 use Rattle.common.specs.Places.{has}
+use Rattle.kinds.specs.Sizes.{places}
 use Rattle.tables.specs.Rows.{rows}
 use mathlib.Core.List.{List}
 use Prim.Native.Nat.{ℕ, _-_, _^_}
@@ -30,13 +31,13 @@ module _ (N R : ℕ) (t l : List (List ℕ)) where
   either true x y p q = p
   either false x y p q = q
 
-  by-turn : (k : ℕ) (b : Bench) (a : Answer) → Stays (turnBy N R t l k b a)
+  by-turn : (k : ℕ) (b : Bench) (a : Answer) → Stays (turnBy t l k b a)
   unfolding turnBy
   by-turn k b (Decided v m) = yes _
   by-turn k b (Went m) = yes _
   by-turn k b (Refused n) = no n
 
-  by-next : (k j : ℕ) (w : Waiting) → Stays (takeNext N t l k j w)
+  by-next : (k j : ℕ) (w : Waiting) → Stays (takeNext t l k j w)
   unfolding takeNext
   by-next k j (Next m) = yes _
   by-next k j Nothing = no 8
@@ -49,34 +50,34 @@ module _ (N R : ℕ) (t l : List (List ℕ)) where
   unfolding atBenches
   at-benches g h b f = either (isBench N b && isBench N f) _ _ (either (eqb b f) _ _ (no 2) (h (b - 1) (f - 1))) (no 1)
 
-  at-start : (v w k : ℕ) → Stays (startAt N R t l v w k)
+  at-start : (v w k : ℕ) → Stays (startAt N t l v w k)
   unfolding startAt
-  at-start v w k = either (eqb (rows N t k .state) 0) _ _ (either (ltb 65535 v) _ _ (no 4) (either (ltb w (2 ^ N) && has w k) _ _
-      (either (lacksOne N t w) _ _ (no 6) (either (lackedByOne N R t l k) _ _ (no 7) (yes _))) (no 5))) (no 3)
+  at-start v w k = either (eqb (rows places t k .state) 0) _ _ (either (ltb 65535 v) _ _ (no 4) (either (ltb w (2 ^ N) && has w k) _ _
+      (either (lacksOne N t w) _ _ (no 6) (either (lackedByOne N t l k) _ _ (no 7) (yes _))) (no 5))) (no 3)
 
-  at-abstain : (k : ℕ) → Stays (abstainAt N R t l k)
+  at-abstain : (k : ℕ) → Stays (abstainAt t l k)
   unfolding abstainAt
-  at-abstain k = either (eqb (rows N t k .state) 0) _ _ (yes _) (no 3)
+  at-abstain k = either (eqb (rows places t k .state) 0) _ _ (yes _) (no 3)
 
-  at-leave : (k : ℕ) → Stays (leaveAt N R t l k)
+  at-leave : (k : ℕ) → Stays (leaveAt t l k)
   unfolding leaveAt
-  at-leave k = either (ltb 3 (rows N t k .state)) _ _ (no 3) (yes _)
+  at-leave k = either (ltb 3 (rows places t k .state)) _ _ (no 3) (yes _)
 
-  at-fail : (k : ℕ) → Stays (failAt N t l k)
+  at-fail : (k : ℕ) → Stays (failAt t l k)
   unfolding failAt
-  at-fail k = either (ltb 3 (rows N t k .state)) _ _ (no 3) (yes _)
+  at-fail k = either (ltb 3 (rows places t k .state)) _ _ (no 3) (yes _)
 
   at-turn : (k : ℕ) → Stays (turnAt N R t l k)
   unfolding turnAt turnOn
   at-turn k = by-turn k _ _
 
-  at-arrive : (k j : ℕ) → Stays (arriveAt N R t l k j)
+  at-arrive : (k j : ℕ) → Stays (arriveAt t l k j)
   unfolding arriveAt
-  at-arrive k j = either (ltb 1 (rows N t k .state)) _ _ (no 3) (either (has (rows N t k .noticed) j) _ _ (no 9) (by-next k j _))
+  at-arrive k j = either (ltb 1 (rows places t k .state)) _ _ (no 3) (either (has (rows places t k .noticed) j) _ _ (no 9) (by-next k j _))
 
-  at-notice : (k j : ℕ) → Stays (noticeAt N t l k j)
+  at-notice : (k j : ℕ) → Stays (noticeAt t l k j)
   unfolding noticeAt
-  at-notice k j = either (ltb 1 (rows N t k .state)) _ _ (no 3) (either (ltb 4 (rows N t j .state)) _ _ (either (has (rows N t k .noticed) j) _ _ (no 9) (yes _)) (no 10))
+  at-notice k j = either (ltb 1 (rows places t k .state)) _ _ (no 3) (either (ltb 4 (rows places t j .state)) _ _ (either (has (rows places t k .noticed) j) _ _ (no 9) (yes _)) (no 10))
 
   step-stays : (a : Step) → Stays (tableStep N R t l a)
   unfolding tableStep

@@ -19,6 +19,7 @@ use Rattle.bench.specs.declared.Bench.{Bench}
 use Rattle.bench.specs.declared.Heard.{Heard}
 use Rattle.common.specs.Places.{has}
 use Rattle.bench.specs.Turns.{awaitedAt, awaitsOf, differs, forbidsBy, forbidsAt, forbidsOf, least}
+use Rattle.kinds.specs.Sizes.{places, depth}
 use Rattle.tables.specs.Rows.{logs}
 use Rattle.tables.specs.Lines.{hears, withMessage, heardTo, heardOf}
 use Rattle.tables.specs.Runs.{lineOf, takenBy, noticedBy, benchOf}
@@ -32,22 +33,22 @@ viewAt b h j = viewOf (cond (has (h .set) j) (found (getD (h .values) j 0) (getD
 -- ---- what is heard
 
 -- h is what b has heard of the senders below n
-pub record Hears (N R : ℕ) (L : ℕ → List ℕ) (b : Bench) (n : ℕ) (h : Heard) : Type 0 where
-  pub values : length (h .values) ≡ N
-  pub worlds : length (h .worlds) ≡ N
+pub record Hears (L : ℕ → List ℕ) (b : Bench) (n : ℕ) (h : Heard) : Type 0 where
+  pub values : length (h .values) ≡ places
+  pub worlds : length (h .worlds) ≡ places
   pub who : (j : ℕ) → has (h .set) j ≡ (ltb j n && hears b j)
   pub what : (j : ℕ) → j < n → hears b j ≡ true
-      → (getD (h .values) j 0 ≡ getD (L j) (b .round .0 - 1) 0) × (getD (h .worlds) j 0 ≡ getD (L j) (b .round .0 - 1 + R) 0)
+      → (getD (h .values) j 0 ≡ getD (L j) (b .round .0 - 1) 0) × (getD (h .worlds) j 0 ≡ getD (L j) (b .round .0 - 1 + depth) 0)
 
 below-next : (j n : ℕ) → (j ≡ n → ⊥) → ltb j n ≡ ltb j (suc n)
 below-next j n p = split (ltb j n)
     (λ d. let q = ltb-true j n d in rw (d, lt-ltb j (suc n) (omega arith)) refl)
     (λ d. let q = ltb-false j n d in rw (d, le-ltb j (suc n) (omega arith)) refl)
 
-module _ (N R : ℕ) where
+module _ (N : ℕ) (fits : N ≤ places) where
   -- one sender more, who is heard or not
-  module _ (l : List (List ℕ)) (b : Bench) (n : ℕ) (hn : n < N) (h : Heard) (r : Hears N R (logs l) b n h) where
-    with-one : hears b n ≡ true → Hears N R (logs l) b (suc n) (withMessage R l (b .round .0 - 1) n h)
+  module _ (l : List (List ℕ)) (b : Bench) (n : ℕ) (hn : n < N) (h : Heard) (r : Hears (logs l) b n h) where
+    with-one : hears b n ≡ true → Hears (logs l) b (suc n) (withMessage l (b .round .0 - 1) n h)
     unfolding withMessage
     with-one e = record {
       values = length-set (h .values) n _ ∙ r .values;
@@ -61,7 +62,7 @@ module _ (N R : ℕ) where
           (getD-set-other (h .values) n j _ 0 p ∙ w .0, getD-set-other (h .worlds) n j _ 0 p ∙ w .1));
     }
 
-    without : hears b n ≡ false → Hears N R (logs l) b (suc n) h
+    without : hears b n ≡ false → Hears (logs l) b (suc n) h
     without e = record {
       values = r .values;
       worlds = r .worlds;
@@ -73,44 +74,44 @@ module _ (N R : ℕ) where
           (λ c. let p = eqb-false j n c in r .what j (omega arith) g);
     }
 
-  heard-to : (l : List (List ℕ)) (b : Bench) (n : ℕ) → n ≤ N → Hears N R (logs l) b n (heardTo N R l b n)
+  heard-to : (l : List (List ℕ)) (b : Bench) (n : ℕ) → n ≤ N → Hears (logs l) b n (heardTo l b n)
   unfolding heardTo
   heard-to l b zero h = record {
-    values = length-replicate N 0;
-    worlds = length-replicate N 0;
+    values = length-replicate {A = ℕ} places 0;
+    worlds = length-replicate {A = ℕ} places 0;
     who = λ j. has-none j ∙ rw (le-ltb j 0 (omega arith)) refl;
     what = λ j a. absurd (omega arith);
   }
   heard-to l b (suc n) h = let r = heard-to l b n (omega arith) in
-      cond-ind (λ (x : Heard). Hears N R (logs l) b (suc n) x) (hears b n) _ _ (with-one l b n h (heardTo N R l b n) r) (without l b n h (heardTo N R l b n) r)
+      cond-ind (λ (x : Heard). Hears (logs l) b (suc n) x) (hears b n) _ _ (with-one l b n h (heardTo l b n) r) (without l b n h (heardTo l b n) r)
 
-  pub heard-all : (l : List (List ℕ)) (b : Bench) → 1 ≤ b .round .0 → b .round .0 ≤ R → Hears N R (logs l) b N (heardOf N R l b)
+  pub heard-all : (l : List (List ℕ)) (b : Bench) → 1 ≤ b .round .0 → b .round .0 ≤ depth → Hears (logs l) b N (heardOf N l b)
   unfolding heardOf
-  heard-all l b h₁ h₂ = rw (le-ltb (b .round .0) 1 h₁, le-ltb R (b .round .0) h₂) (heard-to l b N (omega arith))
+  heard-all l b h₁ h₂ = rw (le-ltb (b .round .0) 1 h₁, le-ltb depth (b .round .0) h₂) (heard-to l b N (omega arith))
 
   -- ---- what is seen
 
   module _ (L : ℕ → List ℕ) (k : ℕ) (b : Bench) (own : getD (b .taken) k 0 ≡ b .sent) (own-out : has (b .outs) k ≡ eqb (b .silent) 1) where
     -- what a bench has of bench j + 1, itself included, is the line up to its count
-    got-is : (j : ℕ) → got (suc k) (benchOf R L k b) (suc j) ≡ lineOf R (L j) (getD (b .taken) j 0) (has (b .outs) j)
+    got-is : (j : ℕ) → got (suc k) (benchOf L k b) (suc j) ≡ lineOf (L j) (getD (b .taken) j 0) (has (b .outs) j)
     unfolding got benchOf takenBy
     got-is j = split (eqb j k)
         (λ c. let p = eqb-true j k c in rw (eq-eqb (suc j) (suc k) (omega arith), p, own, own-out) refl)
         (λ c. let p = eqb-false j k c in rw (ne-eqb (suc j) (suc k) (omega arith), c) refl)
 
-    find-at : (log : List ℕ) (n r : ℕ) (o : Bool) → 1 ≤ r → find r (lineOf R log n o) ≡ cond (leb r n) (found (getD log (r - 1) 0) (getD log (r - 1 + R) 0)) absent
+    find-at : (log : List ℕ) (n r : ℕ) (o : Bool) → 1 ≤ r → find r (lineOf log n o) ≡ cond (leb r n) (found (getD log (r - 1) 0) (getD log (r - 1 + depth) 0)) absent
     find-at log n zero o h = absurd (omega arith)
-    find-at log n (suc q) o h = let e : suc q - 1 ≡ q = omega arith in rw e (line-find R log n q o)
+    find-at log n (suc q) o h = let e : suc q - 1 ≡ q = omega arith in rw e (line-find log n q o)
 
     -- a bench sees bench j + 1 as it has heard it
-    pub see-is : 1 ≤ b .round .0 → (h : Heard) → Hears N R L b N h → (j : ℕ) → j < N → see (suc k) (benchOf R L k b) (suc j) ≡ viewAt b h j
+    pub see-is : 1 ≤ b .round .0 → (h : Heard) → Hears L b N h → (j : ℕ) → j < N → see (suc k) (benchOf L k b) (suc j) ≡ viewAt b h j
     unfolding see viewAt noticedBy benchOf
     see-is r h hs j l =
-        rw (got-is j, line-out R) (ap (λ (f : Found). viewOf f (has (b .outs) j) (has (b .noticed) j))
+        rw (got-is j, line-out) (ap (λ (f : Found). viewOf f (has (b .outs) j) (has (b .noticed) j))
         (find-at (L j) (getD (b .taken) j 0) (b .round .0) (has (b .outs) j) r ∙ same (hears b j) refl))
       where
         same : (c : Bool) → hears b j ≡ c
-            → cond c (found (getD (L j) (b .round .0 - 1) 0) (getD (L j) (b .round .0 - 1 + R) 0)) absent
+            → cond c (found (getD (L j) (b .round .0 - 1) 0) (getD (L j) (b .round .0 - 1 + depth) 0)) absent
             ≡ cond (has (h .set) j) (found (getD (h .values) j 0) (getD (h .worlds) j 0)) absent
         same true c = rw (hs .who j, lt-ltb j N l, c, hs .what j l c .0, hs .what j l c .1) refl
         same false c = rw (hs .who j, lt-ltb j N l, c) refl

@@ -14,6 +14,7 @@ use Rattle.common.proofs.Tests.{both, split}
 use Rattle.kinds.specs.declared.Message.the-variants.{Out}
 use Rattle.common.specs.Places.{has}
 use Rattle.bench.specs.Changes.{inState}
+use Rattle.kinds.specs.Sizes.{places}
 use Rattle.tables.specs.Rows.{rows, logs}
 use Rattle.tables.specs.Steps.{acted, stored, sentOf, lacksOne, lackedByOne, startAt, abstainAt, leaveAt, failAt, turnAt, arriveAt, noticeAt, tableStep}
 use Rattle.tables.specs.Runs.{stateOf, noticedBy, benchOf, runBy, runOf}
@@ -31,27 +32,27 @@ use Rattle.tables.proofs.Checks.{not-above, asks, bars, all-hold, behin
 
 module _ (N R : ℕ) (hR : 1 ≤ R) (t l : List (List ℕ)) (s : Sound N R t l) where
   abbrev run : Run
-  run = runOf N R t l
+  run = runOf t l
 
   -- ---- the tests of states
 
-  state-is : (k : ℕ) → run (suc k) .state ≡ stateOf (rows N t k .state)
+  state-is : (k : ℕ) → run (suc k) .state ≡ stateOf (rows places t k .state)
   unfolding runOf runBy benchOf
   state-is k = refl
 
-  fresh-test : (k : ℕ) → isFresh (run (suc k) .state) ≡ eqb (rows N t k .state) 0
-  fresh-test k = ap isFresh (state-is k) ∙ fresh-is (rows N t k .state)
+  fresh-test : (k : ℕ) → isFresh (run (suc k) .state) ≡ eqb (rows places t k .state) 0
+  fresh-test k = ap isFresh (state-is k) ∙ fresh-is (rows places t k .state)
 
-  live-test : (k : ℕ) → (isFresh (run (suc k) .state) || isRunning (run (suc k) .state)) ≡ not (ltb 1 (rows N t k .state))
-  live-test k = ap (λ (x : State). isFresh x || isRunning x) (state-is k) ∙ live-is (rows N t k .state)
+  live-test : (k : ℕ) → (isFresh (run (suc k) .state) || isRunning (run (suc k) .state)) ≡ not (ltb 1 (rows places t k .state))
+  live-test k = ap (λ (x : State). isFresh x || isRunning x) (state-is k) ∙ live-is (rows places t k .state)
 
-  gone-test : (k : ℕ) → not (isGone (run (suc k) .state)) ≡ not (ltb 3 (rows N t k .state))
-  gone-test k = ap (λ (x : State). not (isGone x)) (state-is k) ∙ ap not (gone-is (rows N t k .state))
+  gone-test : (k : ℕ) → not (isGone (run (suc k) .state)) ≡ not (ltb 3 (rows places t k .state))
+  gone-test k = ap (λ (x : State). not (isGone x)) (state-is k) ∙ ap not (gone-is (rows places t k .state))
 
-  failed-test : (k : ℕ) → isFailed (run (suc k) .state) ≡ ltb 4 (rows N t k .state)
-  failed-test k = ap isFailed (state-is k) ∙ failed-is (rows N t k .state)
+  failed-test : (k : ℕ) → isFailed (run (suc k) .state) ≡ ltb 4 (rows places t k .state)
+  failed-test k = ap isFailed (state-is k) ∙ failed-is (rows places t k .state)
 
-  noticed-test : (k j : ℕ) → not (run (suc k) .noticed (suc j)) ≡ not (has (rows N t k .noticed) j)
+  noticed-test : (k j : ℕ) → not (run (suc k) .noticed (suc j)) ≡ not (has (rows places t k .noticed) j)
   unfolding runOf runBy benchOf noticedBy
   noticed-test k j = refl
 
@@ -60,84 +61,84 @@ module _ (N R : ℕ) (hR : 1 ≤ R) (t l : List (List ℕ)) (s : Sound N R t l) 
   world-test : (w k : ℕ) → (ltb w (2 ^ N) && member (suc k) w) ≡ (ltb w (2 ^ N) && has w k)
   world-test w k = rw (member-has k w) refl
 
-  start-links : (v w k : ℕ) → k < N → Links N R (startAt N R t l v w k) (behind N R t l s 1 (start (suc k) v w))
+  start-links : (v w k : ℕ) → k < N → Links N R (startAt N t l v w k) (behind N R t l s 1 (start (suc k) v w))
   unfolding startAt checks after
   start-links v w k h =
-      asks N R t l s 3 (eqb (rows N t k .state) 0) _ _ _ _ (fresh-test k) λ e₃.
+      asks N R t l s 3 (eqb (rows places t k .state) 0) _ _ _ _ (fresh-test k) λ e₃.
       bars N R t l s 4 (ltb 65535 v) _ _ _ _ (not-above 65535 v) λ e₄.
       asks N R t l s 5 (ltb w (2 ^ N) && has w k) _ _ _ _ (world-test w k) λ e₅.
       bars N R t l s 6 (lacksOne N t w) _ _ _ _ (lacks-is N R t l s w) λ e₆.
-      bars N R t l s 7 (lackedByOne N R t l k) _ _ _ _ (lacked-is N R t l k) λ e₇.
-      let new = eqb-true (rows N t k .state) 0 e₃ in let none = s .ok .fit k .fresh new in
+      bars N R t l s 7 (lackedByOne N t l k) _ _ _ _ (lacked-is N R t l k) λ e₇.
+      let new = eqb-true (rows places t k .state) 0 e₃ in let none = s .ok .fit k .fresh new in
       all-hold N R t l s _ _
       (sends-round N R t l s k h v w (ltb-true w (2 ^ N) (both (ltb w (2 ^ N)) (has w k) e₅ .0)) (omega arith) (omega arith) 1 (omega arith))
 
   -- ---- abstain, leave, fail: 3
 
-  parts : (k : ℕ) → k < N → (st : ℕ) → eqb (rows N t k .silent) 1 ≡ false → 3 ≤ st → (st ≡ 3 → rows N t k .sent ≡ 0)
-      → Links N R (acted (sentOf N R t l k (inState st (rows N t k)) Out)) (done (put run (suc k) (parting (stateOf st) (run (suc k)))))
+  parts : (k : ℕ) → k < N → (st : ℕ) → eqb (rows places t k .silent) 1 ≡ false → 3 ≤ st → (st ≡ 3 → rows places t k .sent ≡ 0)
+      → Links N R (acted (sentOf t l k (inState st (rows places t k)) Out)) (done (put run (suc k) (parting (stateOf st) (run (suc k)))))
   unfolding inState withState withDecision parting published.inState runOf runBy benchOf
   parts k h st quiet h₃ abstained =
-      sends-out N R t l s k h st (rows N t k .chose) quiet (omega arith) (λ p. absurd (omega arith)) abstained
+      sends-out N R t l s k h st (rows places t k .chose) quiet (omega arith) (λ p. absurd (omega arith)) abstained
 
-  abstain-links : (k : ℕ) → k < N → Links N R (abstainAt N R t l k) (behind N R t l s 1 (abstain (suc k)))
+  abstain-links : (k : ℕ) → k < N → Links N R (abstainAt t l k) (behind N R t l s 1 (abstain (suc k)))
   unfolding abstainAt checks after stateOf
   abstain-links k h =
-      asks N R t l s 3 (eqb (rows N t k .state) 0) _ _ _ _ (fresh-test k) λ e₃.
-      let new = eqb-true (rows N t k .state) 0 e₃ in
+      asks N R t l s 3 (eqb (rows places t k .state) 0) _ _ _ _ (fresh-test k) λ e₃.
+      let new = eqb-true (rows places t k .state) 0 e₃ in
       all-hold N R t l s _ _ (parts k h 3 (s .ok .fit k .live (omega arith) .0) (omega arith) (λ p. s .ok .fit k .fresh new))
 
-  out-is : (k : ℕ) → hasOut (run (suc k) .sent) ≡ eqb (rows N t k .silent) 1
+  out-is : (k : ℕ) → hasOut (run (suc k) .sent) ≡ eqb (rows places t k .silent) 1
   unfolding runOf runBy benchOf
-  out-is k = line-out R (logs l k) (rows N t k .sent) (eqb (rows N t k .silent) 1)
+  out-is k = line-out (logs l k) (rows places t k .sent) (eqb (rows places t k .silent) 1)
 
   -- OUT is sent if it has not been yet
-  leaves : (k : ℕ) → k < N → Links N R (acted (cond (eqb (rows N t k .silent) 1) (stored N t l k (inState 4 (rows N t k))) (sentOf N R t l k (inState 4 (rows N t k)) Out)))
+  leaves : (k : ℕ) → k < N → Links N R (acted (cond (eqb (rows places t k .silent) 1) (stored t l k (inState 4 (rows places t k))) (sentOf t l k (inState 4 (rows places t k)) Out)))
       (done (put run (suc k) (leaving (run (suc k)))))
   unfolding leaving stateOf
-  leaves k h = split (eqb (rows N t k .silent) 1)
+  leaves k h = split (eqb (rows places t k .silent) 1)
       (λ o. rw (o, out-is k ∙ o) (goes-quietly N R t l s k h 4 (omega arith)))
       (λ o. rw (o, out-is k ∙ o) (parts k h 4 o (omega arith) (λ p. absurd (omega arith))))
 
-  leave-links : (k : ℕ) → k < N → Links N R (leaveAt N R t l k) (behind N R t l s 1 (leave (suc k)))
+  leave-links : (k : ℕ) → k < N → Links N R (leaveAt t l k) (behind N R t l s 1 (leave (suc k)))
   unfolding leaveAt checks after
   leave-links k h =
-      bars N R t l s 3 (ltb 3 (rows N t k .state)) _ _ _ _ (gone-test k) λ e₃.
+      bars N R t l s 3 (ltb 3 (rows places t k .state)) _ _ _ _ (gone-test k) λ e₃.
       all-hold N R t l s _ _ (leaves k h)
 
-  fail-links : (k : ℕ) → k < N → Links N R (failAt N t l k) (behind N R t l s 1 (fail (suc k)))
+  fail-links : (k : ℕ) → k < N → Links N R (failAt t l k) (behind N R t l s 1 (fail (suc k)))
   unfolding failAt checks after stateOf
   fail-links k h =
-      bars N R t l s 3 (ltb 3 (rows N t k .state)) _ _ _ _ (gone-test k) λ e₃.
+      bars N R t l s 3 (ltb 3 (rows places t k .state)) _ _ _ _ (gone-test k) λ e₃.
       all-hold N R t l s _ _ (goes-quietly N R t l s k h 5 (omega arith))
 
   -- ---- arrive: 3, 9, 8
 
-  arrive-links : (k j : ℕ) → k < N → j < N → (j ≡ k → ⊥) → Links N R (arriveAt N R t l k j) (behind N R t l s 2 (arrive (suc k) (suc j)))
+  arrive-links : (k j : ℕ) → k < N → j < N → (j ≡ k → ⊥) → Links N R (arriveAt t l k j) (behind N R t l s 2 (arrive (suc k) (suc j)))
   unfolding arriveAt checks after
   arrive-links k j hk hj ne =
-      bars N R t l s 3 (ltb 1 (rows N t k .state)) _ _ _ _ (live-test k) λ e₃.
-      bars N R t l s 9 (has (rows N t k .noticed) j) _ _ _ _ (noticed-test k j) λ e₉.
+      bars N R t l s 3 (ltb 1 (rows places t k .state)) _ _ _ _ (live-test k) λ e₃.
+      bars N R t l s 9 (has (rows places t k .noticed) j) _ _ _ _ (noticed-test k j) λ e₉.
       takes-next N R t l s k j hk hj ne
 
   -- ---- notice: 3, 10, 9
 
-  notice-links : (k j : ℕ) → k < N → j < N → (j ≡ k → ⊥) → Links N R (noticeAt N t l k j) (behind N R t l s 2 (notice (suc k) (suc j)))
+  notice-links : (k j : ℕ) → k < N → j < N → (j ≡ k → ⊥) → Links N R (noticeAt t l k j) (behind N R t l s 2 (notice (suc k) (suc j)))
   unfolding noticeAt checks after
   notice-links k j hk hj ne =
-      bars N R t l s 3 (ltb 1 (rows N t k .state)) _ _ _ _ (live-test k) λ e₃.
-      asks N R t l s 10 (ltb 4 (rows N t j .state)) _ _ _ _ (failed-test j) λ e₁₀.
-      bars N R t l s 9 (has (rows N t k .noticed) j) _ _ _ _ (noticed-test k j) λ e₉.
+      bars N R t l s 3 (ltb 1 (rows places t k .state)) _ _ _ _ (live-test k) λ e₃.
+      asks N R t l s 10 (ltb 4 (rows places t j .state)) _ _ _ _ (failed-test j) λ e₁₀.
+      bars N R t l s 9 (has (rows places t k .noticed) j) _ _ _ _ (noticed-test k j) λ e₉.
       all-hold N R t l s _ _ (notices N R t l s k hk j)
 
   -- ---- all seven, behind checks 1 and 2
 
   pub links : (a : Step) → Links N R (tableStep N R t l a) (step N (upTo R) run a)
   unfolding tableStep checks
-  links (start b v w) = at-bench N R t l s (λ c. start c v w) (startAt N R t l v w) (λ c. refl) (start-links v w) b
-  links (abstain b) = at-bench N R t l s abstain (abstainAt N R t l) (λ c. refl) abstain-links b
-  links (leave b) = at-bench N R t l s leave (leaveAt N R t l) (λ c. refl) leave-links b
-  links (fail b) = at-bench N R t l s fail (failAt N t l) (λ c. refl) fail-links b
+  links (start b v w) = at-bench N R t l s (λ c. start c v w) (startAt N t l v w) (λ c. refl) (start-links v w) b
+  links (abstain b) = at-bench N R t l s abstain (abstainAt t l) (λ c. refl) abstain-links b
+  links (leave b) = at-bench N R t l s leave (leaveAt t l) (λ c. refl) leave-links b
+  links (fail b) = at-bench N R t l s fail (failAt t l) (λ c. refl) fail-links b
   links (turn b) = at-bench N R t l s turn (turnAt N R t l) (λ c. refl) (turn-links N R t l s) b
-  links (arrive b f) = at-benches N R t l s arrive (arriveAt N R t l) (λ c d. refl) arrive-links b f
-  links (notice b f) = at-benches N R t l s notice (noticeAt N t l) (λ c d. refl) notice-links b f
+  links (arrive b f) = at-benches N R t l s arrive (arriveAt t l) (λ c d. refl) arrive-links b f
+  links (notice b f) = at-benches N R t l s notice (noticeAt t l) (λ c d. refl) notice-links b f

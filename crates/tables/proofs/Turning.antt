@@ -21,6 +21,7 @@ use Rattle.bench.specs.declared.Turned.{Turned}
 use Rattle.common.specs.Places.{has}
 use Rattle.bench.specs.Changes.{choosing, inRound}
 use Rattle.bench.specs.Turns.{awaitsOf, forbidsOf, least, gatherOf, refuses, goOnOf, concludes, turnOf}
+use Rattle.kinds.specs.Sizes.{places}
 use Rattle.tables.specs.Rows.{rows, logs}
 use Rattle.tables.specs.Lines.{message, hears, heardOf}
 use Rattle.tables.specs.Steps.{acted, sentOf, turnBy, turnOn, turnAt}
@@ -35,13 +36,13 @@ use Rattle.tables.proofs.Checks.{asks, bars, all-hold, behind}
 module _ (N R : ℕ) (t l : List (List ℕ)) (s : Sound N R t l) (k : ℕ) (hk : k < N) where
   -- the bench, what it has heard, and the bench of the run
   abbrev b : Bench
-  b = rows N t k
+  b = rows places t k
 
   abbrev h : Heard
-  h = heardOf N R l b
+  h = heardOf N l b
 
   abbrev run : Run
-  run = runOf N R t l
+  run = runOf t l
 
   abbrev x : published.Bench
   x = run (suc k)
@@ -52,14 +53,14 @@ module _ (N R : ℕ) (t l : List (List ℕ)) (s : Sound N R t l) (k : ℕ) (hk :
 
   -- ---- a check of turn beside the published one
 
-  asks-turn : (n : ℕ) (c d : Bool) (p : Turned) (more : List Check) (next : Answer) → d ≡ c → (c ≡ true → Links N R (turnOn N R t l k p) (judge no more next))
-      → Links N R (turnOn N R t l k (cond c p (refuses b n))) (judge no (needs n d ∷ more) next)
+  asks-turn : (n : ℕ) (c d : Bool) (p : Turned) (more : List Check) (next : Answer) → d ≡ c → (c ≡ true → Links N R (turnOn t l k p) (judge no more next))
+      → Links N R (turnOn t l k (cond c p (refuses b n))) (judge no (needs n d ∷ more) next)
   unfolding turnOn turnBy
   asks-turn n true d p more next e f = asks N R t l s n true d _ more next e f
   asks-turn n false d p more next e f = asks N R t l s n false d _ more next e f
 
-  bars-turn : (n : ℕ) (c d : Bool) (p : Turned) (more : List Check) (next : Answer) → d ≡ not c → (c ≡ false → Links N R (turnOn N R t l k p) (judge no more next))
-      → Links N R (turnOn N R t l k (cond c (refuses b n) p)) (judge no (needs n d ∷ more) next)
+  bars-turn : (n : ℕ) (c d : Bool) (p : Turned) (more : List Check) (next : Answer) → d ≡ not c → (c ≡ false → Links N R (turnOn t l k p) (judge no more next))
+      → Links N R (turnOn t l k (cond c (refuses b n) p)) (judge no (needs n d ∷ more) next)
   unfolding turnOn turnBy
   bars-turn n true d p more next e f = bars N R t l s n true d _ more next e f
   bars-turn n false d p more next e f = bars N R t l s n false d _ more next e f
@@ -73,12 +74,12 @@ module _ (N R : ℕ) (t l : List (List ℕ)) (s : Sound N R t l) (k : ℕ) (hk :
     last : b .round .0 ≤ R
     last = omega (arith, s .ok .fit k .running st .0, s .ok .fit k .top)
 
-    hs : Hears N R (logs l) b N h
-    hs = heard-all N R l b first last
+    hs : Hears (logs l) b N h
+    hs = heard-all N (s .fits) l b first (omega (arith, last, s .deep))
 
     zs : (j : ℕ) → j < N → see (suc k) x (suc j) ≡ viewAt b h j
     unfolding runOf runBy
-    zs = see-is N R (logs l) k b (s .ok .own k) (s .ok .own-out k) first h hs
+    zs = see-is N (s .fits) (logs l) k b (s .ok .own k) (s .ok .own-out k) first h hs
 
     worlds : (j : ℕ) → j < N → has (h .set) j ≡ true → getD (h .worlds) j 0 < 2 ^ N
     worlds j hj e =
@@ -106,18 +107,18 @@ module _ (N R : ℕ) (t l : List (List ℕ)) (s : Sound N R t l) (k : ℕ) (hk :
 
     -- ---- it decides, or goes on
 
-    concludes-links : Links N R (turnOn N R t l k (concludes b)) (done (put run (suc k) (deciding x)))
+    concludes-links : Links N R (turnOn t l k (concludes b)) (done (put run (suc k) (deciding x)))
     unfolding turnOn turnBy choosing withState withDecision deciding parting published.choosing published.inState runOf runBy benchOf stateOf decisionOf
     concludes-links = sends-out N R t l s k hk 2 1 (s .ok .fit k .live (omega arith) .0) (omega arith) (λ e. s .ok .fit k .running st .1) (λ e. absurd (omega arith))
 
     enters : b .round .0 < R → (v w : ℕ) → w < 2 ^ N
-        → Links N R (acted (sentOf N R t l k (inRound (b .round .0 + 1) (record { 0 = v }) w b) (message (b .round .0 + 1) v w))) (done (put run (suc k) (entering (suc (x .round)) v w x)))
+        → Links N R (acted (sentOf t l k (inRound (b .round .0 + 1) (record { 0 = v }) w b) (message (b .round .0 + 1) v w))) (done (put run (suc k) (entering (suc (x .round)) v w x)))
     unfolding runOf runBy benchOf
     enters room v w hw =
         let e = s .ok .fit k .running st .0 in
         rw add-one (sends-round N R t l s k hk v w hw (omega arith) (omega arith) (suc (b .round .0)) (omega arith))
 
-    goes-on : b .round .0 < R → Links N R (turnOn N R t l k (goOnOf N b h)) (done (put run (suc k) (advancing N (suc k) x)))
+    goes-on : b .round .0 < R → Links N R (turnOn t l k (goOnOf N b h)) (done (put run (suc k) (advancing N (suc k) x)))
     unfolding turnOn turnBy goOnOf gatherOf inRound advancing
     goes-on room = rw (value-eq, world-eq) (enters room (nextValue N (suc k) x) (nextWorld N (suc k) x) next-world)
 
@@ -127,11 +128,11 @@ module _ (N R : ℕ) (t l : List (List ℕ)) (s : Sound N R t l) (k : ℕ) (hk :
     unfolding allows runOf runBy benchOf
     room-is = refl
 
-    limited : Links N R (turnOn N R t l k (cond (ltb (b .round .0) R) (goOnOf N b h) (refuses b 12)))
+    limited : Links N R (turnOn t l k (cond (ltb (b .round .0) R) (goOnOf N b h) (refuses b 12)))
         (judge no (needs 12 (allows (upTo R) (suc (x .round))) ∷ []) (done (put run (suc k) (advancing N (suc k) x))))
     limited = asks-turn 12 (ltb (b .round .0) R) _ _ _ _ room-is λ e₁₂. all-hold N R t l s _ _ (goes-on (ltb-true (b .round .0) R e₁₂))
 
-    ends : Links N R (turnOn N R t l k (cond (forbidsOf N b h) (cond (ltb (b .round .0) R) (goOnOf N b h) (refuses b 12)) (concludes b)))
+    ends : Links N R (turnOn t l k (cond (forbidsOf N b h) (cond (ltb (b .round .0) R) (goOnOf N b h) (refuses b 12)) (concludes b)))
         (judge no (needs 12 (decides N (suc k) x || allows (upTo R) (suc (x .round))) ∷ []) (done (put run (suc k) (turned N (suc k) x))))
     unfolding judge turned
     ends = split (forbidsOf N b h)

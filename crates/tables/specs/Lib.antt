@@ -4,3 +4,5 @@ pub mod Steps
 pub mod Runs
 pub mod Sound
 pub mod Meets
+pub mod Decided
+pub mod Local

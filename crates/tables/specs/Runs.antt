@@ -6,18 +6,19 @@ use lib.Dec.{eqb}
 use lib.ListN.{getD}
 use Rattle.published.specs.Rounds as published
 use Rattle.published.specs.Rounds.{Message, Round, Out, State, fresh, running, decided, abstained, left, failed, Decision, none, chosen, Run, newBench}
+use Rattle.kinds.specs.Sizes.{places, depth}
 use Rattle.bench.specs.declared.Bench.{Bench}
 use Rattle.common.specs.Places.{has}
 use Rattle.tables.specs.Rows.{rows, logs}
 
 -- a log's messages of rounds 1 to n
-unfoldable pub roundsOf : ℕ → List ℕ → ℕ → List Message
-roundsOf R log zero = []
-roundsOf R log (suc n) = roundsOf R log n ++ (Round (suc n) (getD log n 0) (getD log (n + R) 0) ∷ [])
+unfoldable pub messagesTo : List ℕ → ℕ → List Message
+messagesTo log zero = []
+messagesTo log (suc n) = messagesTo log n ++ (Round (suc n) (getD log n 0) (getD log (n + depth) 0) ∷ [])
 
 -- and then OUT, if it has come
-unfoldable pub lineOf : ℕ → List ℕ → ℕ → Bool → List Message
-lineOf R log n out = roundsOf R log n ++ cond out (Out ∷ []) []
+unfoldable pub lineOf : List ℕ → ℕ → Bool → List Message
+lineOf log n out = messagesTo log n ++ cond out (Out ∷ []) []
 
 unfoldable pub stateOf : ℕ → State
 stateOf zero = fresh
@@ -28,9 +29,9 @@ stateOf (suc (suc (suc (suc zero)))) = left
 stateOf (suc (suc (suc (suc (suc n))))) = failed
 
 -- what bench k + 1, now b, has taken of each other bench
-unfoldable pub takenBy : ℕ → (ℕ → List ℕ) → ℕ → Bench → ℕ → List Message
-takenBy R L k b zero = []
-takenBy R L k b (suc j) = cond (eqb j k) [] (lineOf R (L j) (getD (b .taken) j 0) (has (b .outs) j))
+unfoldable pub takenBy : (ℕ → List ℕ) → ℕ → Bench → ℕ → List Message
+takenBy L k b zero = []
+takenBy L k b (suc j) = cond (eqb j k) [] (lineOf (L j) (getD (b .taken) j 0) (has (b .outs) j))
 
 unfoldable pub noticedBy : ℕ → ℕ → Bool
 noticedBy set zero = false
@@ -39,23 +40,23 @@ noticedBy set (suc j) = has set j
 unfoldable pub decisionOf : ℕ → ℕ → Decision
 decisionOf chose v = cond (eqb chose 1) (chosen v) none
 
-unfoldable pub benchOf : ℕ → (ℕ → List ℕ) → ℕ → Bench → published.Bench
-benchOf R L k b =
+unfoldable pub benchOf : (ℕ → List ℕ) → ℕ → Bench → published.Bench
+benchOf L k b =
     record {
       state = stateOf (b .state);
       round = b .round .0;
       value = b .value .0;
       world = b .world;
-      sent = lineOf R (L k) (b .sent) (eqb (b .silent) 1);
-      taken = takenBy R L k b;
+      sent = lineOf (L k) (b .sent) (eqb (b .silent) 1);
+      taken = takenBy L k b;
       noticed = noticedBy (b .noticed);
       decision = decisionOf (b .chose) (b .value .0);
     }
 
 -- the run of benches and logs given by place
-unfoldable pub runBy : ℕ → (ℕ → Bench) → (ℕ → List ℕ) → Run
-runBy R B L zero = newBench
-runBy R B L (suc k) = benchOf R L k (B k)
+unfoldable pub runBy : (ℕ → Bench) → (ℕ → List ℕ) → Run
+runBy B L zero = newBench
+runBy B L (suc k) = benchOf L k (B k)
 
-unfoldable pub runOf : ℕ → ℕ → List (List ℕ) → List (List ℕ) → Run
-runOf N R t l = runBy R (rows N t) (logs l)
+unfoldable pub runOf : List (List ℕ) → List (List ℕ) → Run
+runOf t l = runBy (rows places t) (logs l)

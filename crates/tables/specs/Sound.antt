@@ -6,14 +6,15 @@ use mathlib.Core.List.{List, []}
 use Prim.Native.Nat.{ℕ, _+_, _^_, _≤_, _<_}
 use lib.Dec.{eqb}
 use lib.ListN.{getD, length}
+use Rattle.kinds.specs.Sizes.{places, depth}
 use Rattle.bench.specs.declared.Bench.{Bench}
 use Rattle.common.specs.Places.{has}
 use Rattle.tables.specs.Rows.{rows, logs}
 
 -- one bench by itself
 pub record Fit (N R : ℕ) (b : Bench) : Type 0 where
-  -- it counts the messages of N benches, and has sent at most R of its own
-  pub size : length (b .taken) ≡ N
+  -- it counts the messages of each place, and has sent at most R of its own
+  pub size : length (b .taken) ≡ places
   pub top : b .sent ≤ R
   -- fresh or running: it has neither sent OUT nor decided
   pub live : b .state ≤ 1 → (eqb (b .silent) 1 ≡ false) × (eqb (b .chose) 1 ≡ false)
@@ -36,10 +37,13 @@ pub record Ok (N R : ℕ) (B : ℕ → Bench) (L : ℕ → List ℕ) : Type 0 wh
   pub line : (k j : ℕ) → getD (B k .taken) j 0 ≤ B j .sent
   pub end : (k j : ℕ) → has (B k .outs) j ≡ true → (eqb (B j .silent) 1 ≡ true) × (getD (B k .taken) j 0 ≡ B j .sent)
   -- a world that was sent names no bench above N
-  pub worlds : (k i : ℕ) → i < B k .sent → getD (L k) (i + R) 0 < 2 ^ N
+  pub worlds : (k i : ℕ) → i < B k .sent → getD (L k) (i + depth) 0 < 2 ^ N
 
 pub record Sound (N R : ℕ) (t l : List (List ℕ)) : Type 0 where
-  pub benches : length t ≡ N
-  pub books : length l ≡ N
-  pub places : (k : ℕ) → k < N → length (getD l k []) ≡ R + R
-  pub ok : Ok N R (rows N t) (logs l)
+  -- the tables have room for N benches and R rounds
+  pub fits : N ≤ places
+  pub deep : R ≤ depth
+  pub benches : length t ≡ places
+  pub books : length l ≡ places
+  pub ok : Ok N R (rows places t) (logs l)
+  pub logs : (k : ℕ) → k < places → length (getD l k []) ≡ depth + depth

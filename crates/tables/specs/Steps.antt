@@ -1,4 +1,5 @@
 -- The seven steps on the two tables, for N benches and R rounds: the answer and both tables after, for all tables that can be handed in.
+-- Whatever N and R are, a table has `places` rows and a log has room for `depth` rounds.
 use mathlib.Core.Path.{_≡_}
 use mathlib.Core.Bool.{Bool, cond, not, _&&_, _||_}
 use Prim.Native.Nat.{ℕ, _+_, _-_, _^_}
@@ -7,6 +8,7 @@ use lib.Dec.{eqb, ltb}
 use lib.ListN.{getD, set, replicate}
 use Rattle.published.specs.Rounds.{Step, start, abstain, leave, fail, turn, arrive, notice}
 use Rattle.common.specs.Benches.{isBench}
+use Rattle.kinds.specs.Sizes.{places, depth}
 use Rattle.kinds.specs.declared.Message.{Message}
 use Rattle.kinds.specs.declared.Message.the-variants.{Round, Out}
 use Rattle.bench.specs.declared.Bench.{Bench}
@@ -43,18 +45,18 @@ abbrev pub acted : Tables → Act
 acted e = record { answer = 0; tables = e }
 
 -- bench k is now b
-abbrev pub stored : ℕ → List (List ℕ) → List (List ℕ) → ℕ → Bench → Tables
-stored N t l k b = record { benches = set t k (rowOf N b); logs = l }
+abbrev pub stored : List (List ℕ) → List (List ℕ) → ℕ → Bench → Tables
+stored t l k b = record { benches = set t k (rowOf places b); logs = l }
 
 -- v at place i of row k
 abbrev pub putAt : List (List ℕ) → ℕ → ℕ → ℕ → List (List ℕ)
 putAt l k i v = set l k (set (getD l k []) i v)
 
 -- bench k, now b, sends a message: it stands in its log, and the bench has it at once
-unfoldable pub sentOf : ℕ → ℕ → List (List ℕ) → List (List ℕ) → ℕ → Bench → Message → Tables
-sentOf N R t l k b (Round m) =
-    stored N t (putAt (putAt l k (m .round .0 - 1) (m .value .0)) k (m .round .0 - 1 + R) (m .world)) k (sentTo (m .round .0) (takeOf b k (Round m)))
-sentOf N R t l k b Out = stored N t l k (sentOut (takeOf b k Out))
+unfoldable pub sentOf : List (List ℕ) → List (List ℕ) → ℕ → Bench → Message → Tables
+sentOf t l k b (Round m) =
+    stored t (putAt (putAt l k (m .round .0 - 1) (m .value .0)) k (m .round .0 - 1 + depth) (m .world)) k (sentTo (m .round .0) (takeOf b k (Round m)))
+sentOf t l k b Out = stored t l k (sentOut (takeOf b k Out))
 
 -- ---- the steps at place k, and from place j
 
@@ -66,63 +68,63 @@ unfoldable pub lacksOne : ℕ → List (List ℕ) → ℕ → Bool
 lacksOne N t w = some (lacksAt t w) N
 
 -- bench j ever started, with a world without bench k
-unfoldable pub lackedAt : ℕ → List (List ℕ) → List (List ℕ) → ℕ → ℕ → Bool
-lackedAt R t l k j = ltb 0 (getD (getD t j []) 6 0) && not (has (getD (getD l j []) R 0) k)
+unfoldable pub lackedAt : List (List ℕ) → List (List ℕ) → ℕ → ℕ → Bool
+lackedAt t l k j = ltb 0 (getD (getD t j []) 6 0) && not (has (getD (getD l j []) depth 0) k)
 
-unfoldable pub lackedByOne : ℕ → ℕ → List (List ℕ) → List (List ℕ) → ℕ → Bool
-lackedByOne N R t l k = some (lackedAt R t l k) N
+unfoldable pub lackedByOne : ℕ → List (List ℕ) → List (List ℕ) → ℕ → Bool
+lackedByOne N t l k = some (lackedAt t l k) N
 
-unfoldable pub startAt : ℕ → ℕ → List (List ℕ) → List (List ℕ) → ℕ → ℕ → ℕ → Act
-startAt N R t l v w k =
-    cond (eqb (rows N t k .state) 0)
+unfoldable pub startAt : ℕ → List (List ℕ) → List (List ℕ) → ℕ → ℕ → ℕ → Act
+startAt N t l v w k =
+    cond (eqb (rows places t k .state) 0)
     (cond (ltb 65535 v) (refused 4 t l)
     (cond (ltb w (2 ^ N) && has w k)
     (cond (lacksOne N t w) (refused 6 t l)
-    (cond (lackedByOne N R t l k) (refused 7 t l)
-    (acted (sentOf N R t l k (inRound 1 (record { 0 = v }) w (rows N t k)) (message 1 v w)))))
+    (cond (lackedByOne N t l k) (refused 7 t l)
+    (acted (sentOf t l k (inRound 1 (record { 0 = v }) w (rows places t k)) (message 1 v w)))))
     (refused 5 t l)))
     (refused 3 t l)
 
-unfoldable pub abstainAt : ℕ → ℕ → List (List ℕ) → List (List ℕ) → ℕ → Act
-abstainAt N R t l k = cond (eqb (rows N t k .state) 0) (acted (sentOf N R t l k (inState 3 (rows N t k)) Out)) (refused 3 t l)
+unfoldable pub abstainAt : List (List ℕ) → List (List ℕ) → ℕ → Act
+abstainAt t l k = cond (eqb (rows places t k .state) 0) (acted (sentOf t l k (inState 3 (rows places t k)) Out)) (refused 3 t l)
 
-unfoldable pub leaveAt : ℕ → ℕ → List (List ℕ) → List (List ℕ) → ℕ → Act
-leaveAt N R t l k =
-    cond (ltb 3 (rows N t k .state)) (refused 3 t l)
-    (acted (cond (eqb (rows N t k .silent) 1) (stored N t l k (inState 4 (rows N t k))) (sentOf N R t l k (inState 4 (rows N t k)) Out)))
+unfoldable pub leaveAt : List (List ℕ) → List (List ℕ) → ℕ → Act
+leaveAt t l k =
+    cond (ltb 3 (rows places t k .state)) (refused 3 t l)
+    (acted (cond (eqb (rows places t k .silent) 1) (stored t l k (inState 4 (rows places t k))) (sentOf t l k (inState 4 (rows places t k)) Out)))
 
-unfoldable pub failAt : ℕ → List (List ℕ) → List (List ℕ) → ℕ → Act
-failAt N t l k = cond (ltb 3 (rows N t k .state)) (refused 3 t l) (acted (stored N t l k (inState 5 (rows N t k))))
+unfoldable pub failAt : List (List ℕ) → List (List ℕ) → ℕ → Act
+failAt t l k = cond (ltb 3 (rows places t k .state)) (refused 3 t l) (acted (stored t l k (inState 5 (rows places t k))))
 
-unfoldable pub turnBy : ℕ → ℕ → List (List ℕ) → List (List ℕ) → ℕ → Bench → Answer → Act
-turnBy N R t l k b (Decided v m) = acted (sentOf N R t l k b m)
-turnBy N R t l k b (Went m) = acted (sentOf N R t l k b m)
-turnBy N R t l k b (Refused n) = refused n t l
+unfoldable pub turnBy : List (List ℕ) → List (List ℕ) → ℕ → Bench → Answer → Act
+turnBy t l k b (Decided v m) = acted (sentOf t l k b m)
+turnBy t l k b (Went m) = acted (sentOf t l k b m)
+turnBy t l k b (Refused n) = refused n t l
 
-unfoldable pub turnOn : ℕ → ℕ → List (List ℕ) → List (List ℕ) → ℕ → Turned → Act
-turnOn N R t l k r = turnBy N R t l k (r .bench) (r .answer)
+unfoldable pub turnOn : List (List ℕ) → List (List ℕ) → ℕ → Turned → Act
+turnOn t l k r = turnBy t l k (r .bench) (r .answer)
 
 unfoldable pub turnAt : ℕ → ℕ → List (List ℕ) → List (List ℕ) → ℕ → Act
-turnAt N R t l k = turnOn N R t l k (turnOf N R (rows N t k) (heardOf N R l (rows N t k)))
+turnAt N R t l k = turnOn t l k (turnOf N R (rows places t k) (heardOf N l (rows places t k)))
 
-unfoldable pub takeNext : ℕ → List (List ℕ) → List (List ℕ) → ℕ → ℕ → Waiting → Act
-takeNext N t l k j (Next m) = acted (stored N t l k (takeOf (rows N t k) j m))
-takeNext N t l k j Nothing = refused 8 t l
+unfoldable pub takeNext : List (List ℕ) → List (List ℕ) → ℕ → ℕ → Waiting → Act
+takeNext t l k j (Next m) = acted (stored t l k (takeOf (rows places t k) j m))
+takeNext t l k j Nothing = refused 8 t l
 
 -- what waits for bench k on the line from bench j
-unfoldable pub nextOn : ℕ → ℕ → List (List ℕ) → List (List ℕ) → ℕ → ℕ → Waiting
-nextOn N R t l k j = waitingOf R (logs l j) (getD (rows N t k .taken) j 0) (has (rows N t k .outs) j) (rows N t j .sent) (rows N t j .silent)
+unfoldable pub nextOn : List (List ℕ) → List (List ℕ) → ℕ → ℕ → Waiting
+nextOn t l k j = waitingOf (logs l j) (getD (rows places t k .taken) j 0) (has (rows places t k .outs) j) (rows places t j .sent) (rows places t j .silent)
 
-unfoldable pub arriveAt : ℕ → ℕ → List (List ℕ) → List (List ℕ) → ℕ → ℕ → Act
-arriveAt N R t l k j =
-    cond (ltb 1 (rows N t k .state)) (refused 3 t l)
-    (cond (has (rows N t k .noticed) j) (refused 9 t l) (takeNext N t l k j (nextOn N R t l k j)))
+unfoldable pub arriveAt : List (List ℕ) → List (List ℕ) → ℕ → ℕ → Act
+arriveAt t l k j =
+    cond (ltb 1 (rows places t k .state)) (refused 3 t l)
+    (cond (has (rows places t k .noticed) j) (refused 9 t l) (takeNext t l k j (nextOn t l k j)))
 
-unfoldable pub noticeAt : ℕ → List (List ℕ) → List (List ℕ) → ℕ → ℕ → Act
-noticeAt N t l k j =
-    cond (ltb 1 (rows N t k .state)) (refused 3 t l)
-    (cond (ltb 4 (rows N t j .state))
-    (cond (has (rows N t k .noticed) j) (refused 9 t l) (acted (stored N t l k (noticeOf (rows N t k) j))))
+unfoldable pub noticeAt : List (List ℕ) → List (List ℕ) → ℕ → ℕ → Act
+noticeAt t l k j =
+    cond (ltb 1 (rows places t k .state)) (refused 3 t l)
+    (cond (ltb 4 (rows places t j .state))
+    (cond (has (rows places t k .noticed) j) (refused 9 t l) (acted (stored t l k (noticeOf (rows places t k) j))))
     (refused 10 t l))
 
 -- ---- the steps
@@ -136,13 +138,13 @@ unfoldable pub atBenches : ℕ → List (List ℕ) → List (List ℕ) → (ℕ 
 atBenches N t l g b f = cond (isBench N b && isBench N f) (cond (eqb b f) (refused 2 t l) (g (b - 1) (f - 1))) (refused 1 t l)
 
 unfoldable pub tableStep : ℕ → ℕ → List (List ℕ) → List (List ℕ) → Step → Act
-tableStep N R t l (start b v w) = atBench N t l (startAt N R t l v w) b
-tableStep N R t l (abstain b) = atBench N t l (abstainAt N R t l) b
-tableStep N R t l (leave b) = atBench N t l (leaveAt N R t l) b
-tableStep N R t l (fail b) = atBench N t l (failAt N t l) b
+tableStep N R t l (start b v w) = atBench N t l (startAt N t l v w) b
+tableStep N R t l (abstain b) = atBench N t l (abstainAt t l) b
+tableStep N R t l (leave b) = atBench N t l (leaveAt t l) b
+tableStep N R t l (fail b) = atBench N t l (failAt t l) b
 tableStep N R t l (turn b) = atBench N t l (turnAt N R t l) b
-tableStep N R t l (arrive b f) = atBenches N t l (arriveAt N R t l) b f
-tableStep N R t l (notice b f) = atBenches N t l (noticeAt N t l) b f
+tableStep N R t l (arrive b f) = atBenches N t l (arriveAt t l) b f
+tableStep N R t l (notice b f) = atBenches N t l (noticeAt t l) b f
 
 -- ---- lists of steps
 
@@ -154,5 +156,5 @@ unfoldable pub tableAnswers : ℕ → ℕ → Tables → List Step → List ℕ
 tableAnswers N R e [] = []
 tableAnswers N R e (a ∷ l) = tableStep N R (e .benches) (e .logs) a .answer ∷ tableAnswers N R (tableStep N R (e .benches) (e .logs) a .tables) l
 
-unfoldable pub emptyTables : ℕ → ℕ → Tables
-emptyTables N R = record { benches = replicate N (replicate (9 + N) 0); logs = replicate N (replicate (R + R) 0) }
+unfoldable pub emptyTables : Tables
+emptyTables = record { benches = replicate places (replicate (9 + places) 0); logs = replicate places (replicate (depth + depth) 0) }

@@ -1,13 +1,23 @@
 // A run as two tables of words, a row for each bench in both: their types, and where each word of a bench's row stands. What the seven steps do
 // to them, which run they stand for, and that the steps are the published rounds: definitions and theorems in specs/ and proofs/. There is no code here.
+use kinds::DEPTH;
+use kinds::PLACES;
 
-// Row k is bench k + 1's: nine words, and from TAKEN on how many round messages it has taken of each place.
-pub type Benches = [[u32; 25]; 16];
+// Row k is bench k + 1's.
+pub type Benches = [Row; PLACES];
 
-// Row k is bench k + 1's log: the value that it sent in round r at r - 1, and the world 96 places further.
-pub type Logs = [[u32; 192]; 16];
+// Nine words, and from TAKEN on how many round messages the bench has taken of each place.
+pub type Row = [u32; ROW];
 
-// 0 fresh, 1 running, 2 decided, 3 abstained, 4 left, 5 and above failed.
+// Row k is bench k + 1's log: the value that it sent in round r at r - 1, and the world DEPTH places further.
+pub type Logs = [[u32; LOG]; PLACES];
+
+// How many words a row has, and a log.
+pub const ROW: usize = TAKEN + PLACES;
+
+pub const LOG: usize = DEPTH + DEPTH;
+
+// One of the states that crate `bench` names.
 pub const STATE: usize = 0;
 
 pub const ROUND: usize = 1;

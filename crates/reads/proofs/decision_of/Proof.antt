@@ -1,11 +1,11 @@
--- `decision_of`: by whether there is such a bench, and whether it has decided.
+-- `decision_of`: by whether a table has such a place, and whether it has decided.
 use Rattle.reads.proofs.Reading.{no-decision, undecided, decided}
 use borrow.Author.Needs.{needs}
 use Rattle.reads.proofs.decision_of.Statement.{statement}
 use Rattle.reads.proofs.decision_of.Tie as tie
 
-is-bench-requires : tie.Need-is-bench-requires
-is-bench-requires c κs = search needs
+has-place-requires : tie.Need-has-place-requires
+has-place-requires c κs = search needs
 
 returns : tie.Need-returns
 returns c = search no-decision
@@ -41,7 +41,7 @@ pub decision-of-spec : {M : Type 1} → statement M
 decision-of-spec =
     tie.close
     (tie.spec
-    is-bench-requires
+    has-place-requires
     returns
     place-requires
     mul-if2

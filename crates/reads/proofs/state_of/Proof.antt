@@ -1,11 +1,11 @@
--- `state_of`: by whether there is such a bench.
+-- `state_of`: by whether a table has such a place.
 use Rattle.reads.proofs.Reading.{no-state, has-state}
 use borrow.Author.Needs.{needs}
 use Rattle.reads.proofs.state_of.Statement.{statement}
 use Rattle.reads.proofs.state_of.Tie as tie
 
-is-bench-requires : tie.Need-is-bench-requires
-is-bench-requires c κs = search needs
+has-place-requires : tie.Need-has-place-requires
+has-place-requires c κs = search needs
 
 returns : tie.Need-returns
 returns c = search no-state
@@ -29,7 +29,7 @@ pub state-of-spec : {M : Type 1} → statement M
 state-of-spec =
     tie.close
     (tie.spec
-    is-bench-requires
+    has-place-requires
     returns
     place-requires
     mul-result

@@ -5,10 +5,12 @@ use native.Mathlib.Omega.{arith}
 use denote.Ref.{now}
 use lib.ListN.{length, take}
 use lib.Seq.{length-take-le}
+use Rattle.kinds.specs.declared.Size.the-variants.{Sixteen}
+use Rattle.reports.specs.Reported.{longest}
 use Rattle.tables.specs.Steps.{emptyTables}
 use Rattle.spelling.proofs.Stores.{room-is, room-not}
 use Rattle.reports.proofs.Settled.{text-long}
-use Rattle.run_report.proofs.Reports.{Made, made, lines-few, room-front, parts-short, parts-done}
+use Rattle.run_report.proofs.Reports.{Made, made, benches-room, lines-few, room-front, parts-short, parts-done}
 use borrow.Author.Needs.{needs}
 use Rattle.run_report.proofs.report.Statement.{statement}
 use Rattle.run_report.proofs.report.Tie as tie
@@ -24,16 +26,16 @@ played c = c .before .before .before .before .before
 abbrev start : tie.After-play → tie.Start
 start c = c .before .before .before .before .before .before .before
 
-not-long : (c : tie.After-play) → length (now (start c .args .text)) ≤ 65536
+not-long : (c : tie.After-play) → length (now (start c .args .text)) ≤ longest
 not-long c = c .before .before .before .before .if1 .left
 
 -- the answers are few, and the parts of the report are made
 
-few : (c : tie.After-play) → length (take (c .play .result) (c .play .last .1 .1 .1 .0)) ≤ 65536
+few : (c : tie.After-play) → length (take (c .play .result) (c .play .last .1 .1 .1 .0)) ≤ longest
 few c = lines-few (c .play .ensures) (not-long c)
 
 parts : (c : tie.After-put-totals)
-    → Made (now (start (played (benched c)) .args .text)) (take (played (benched c) .play .result) (played (benched c) .play .last .1 .1 .1 .0)) (c .put-totals .last .0) (c .put-totals .result)
+    → Made Sixteen (now (start (played (benched c)) .args .text)) (take (played (benched c) .play .result) (played (benched c) .play .last .1 .1 .1 .0)) (c .put-totals .last .0) (c .put-totals .result)
 parts c = made (played (benched c) .play .ensures) (benched c .store-benches .ensures) (c .before .refused-in .ensures) (c .put-totals .ensures) (search needs)
 
 returns : tie.Need-returns
@@ -56,7 +58,7 @@ slice-aggregate-store-benches : tie.Need-slice-aggregate-store-benches
 slice-aggregate-store-benches c = search needs
 
 store-benches-requires : tie.Need-store-benches-requires
-store-benches-requires c κs = search needs
+store-benches-requires c κs = search (benches-room, needs)
 
 slice-aggregate-put-totals : tie.Need-slice-aggregate-put-totals
 slice-aggregate-put-totals c = search needs
@@ -81,7 +83,7 @@ same-length c = search needs
 returns-2 : tie.Need-returns-2
 returns-2 c =
     let t = c .before .before .before .before in
-    parts-short _ _ _ _ _ (not-long (played (benched t))) (parts t) (room-not (c .before .room-for .ensures) (c .if2 .taken))
+    parts-short _ _ _ _ _ _ (not-long (played (benched t))) (parts t) (room-not (c .before .room-for .ensures) (c .if2 .taken))
 
 store-answers-requires : tie.Need-store-answers-requires
 store-answers-requires c κs =
@@ -110,7 +112,7 @@ returns-3 c =
     let s = b .before .before .before .before .before in
     let r = s .before .before .before in
     let t = r .before .before .before in
-    parts-done _ _ _ _ _ (not-long (played (benched t))) (parts t) (room-is (r .room-for .ensures) (s .before .before .if2 .left)) (s .store-answers .ensures) (b .put-bytes .ensures)
+    parts-done _ _ _ _ _ _ (not-long (played (benched t))) (parts t) (room-is (r .room-for .ensures) (s .before .before .if2 .left)) (s .store-answers .ensures) (b .put-bytes .ensures)
 
 pub report-spec : {M : Type 1} → statement M
 report-spec =

@@ -5,15 +5,22 @@ use mathlib.Core.Bool.{false}
 use Prim.Native.Nat.{_≤_, _-_}
 use Rattle.common.specs.Places.{some}
 use Rattle.bench.specs.Turns.{awaitedAt, awaitsOf}
-use Rattle.common.proofs.Places.{some-found, some-passed, some-none}
+use Rattle.common.proofs.Places.{some-passed}
+use Rattle.bench.proofs.Visits.{found-among, none-among}
 use Rattle.bench.proofs.Bench.awaits.Statement.{statement}
 use Rattle.bench.proofs.Bench.awaits.Tie as tie
 
 abbrev Inv-loop : tie.InvT-loop
-Inv-loop self h k₀ k = (k ≤ 16) × (some (awaitedAt self h) k ≡ false)
+Inv-loop self h n k₀ k = (k ≤ n) × (some (awaitedAt self h) k ≡ false)
 
 abbrev μ-loop : tie.MeasureT-loop
-μ-loop self h k₀ k = 16 - k
+μ-loop self h n k₀ k = n - k
+
+benches-of-requires : tie.Need-benches-of-requires Inv-loop μ-loop
+benches-of-requires c κs = search needs
+
+cast-n : tie.Need-cast-n Inv-loop μ-loop
+cast-n c = search needs
 
 loop-holds : tie.Need-loop-holds Inv-loop μ-loop
 unfolding some
@@ -24,7 +31,7 @@ awaited-at-requires c κs = search needs
 
 returns : tie.Need-returns Inv-loop μ-loop
 unfolding awaitsOf
-returns c = search some-found
+returns c = search found-among
 
 add-k : tie.Need-add-k Inv-loop μ-loop
 add-k c = search needs
@@ -37,7 +44,7 @@ loop-again c = (search needs, search some-passed)
 
 returns-2 : tie.Need-returns-2 Inv-loop μ-loop
 unfolding awaitsOf
-returns-2 c = search some-none
+returns-2 c = search none-among
 
 pub awaits-spec : {M : Type 1} → statement M
 awaits-spec =
@@ -45,6 +52,8 @@ awaits-spec =
     (tie.spec
     Inv-loop
     μ-loop
+    benches-of-requires
+    cast-n
     loop-holds
     awaited-at-requires
     returns

@@ -5,16 +5,22 @@ use mathlib.Core.Bool.{false}
 use Prim.Native.Nat.{_≤_, _-_}
 use Rattle.common.specs.Places.{some}
 use Rattle.bench.specs.Turns.{forbidsAt, forbidsOf}
-use Rattle.common.proofs.Places.{some-found, some-passed, some-none}
-use Rattle.bench.proofs.Visits.{forbids-heard}
+use Rattle.common.proofs.Places.{some-passed}
+use Rattle.bench.proofs.Visits.{found-among, none-among, forbids-heard}
 use Rattle.bench.proofs.Bench.forbids.Statement.{statement}
 use Rattle.bench.proofs.Bench.forbids.Tie as tie
 
 abbrev Inv-loop : tie.InvT-loop
-Inv-loop self h k₀ k = (k ≤ 16) × (some (forbidsAt self h) k ≡ false)
+Inv-loop self h n k₀ k = (k ≤ n) × (some (forbidsAt self h) k ≡ false)
 
 abbrev μ-loop : tie.MeasureT-loop
-μ-loop self h k₀ k = 16 - k
+μ-loop self h n k₀ k = n - k
+
+benches-of-requires : tie.Need-benches-of-requires Inv-loop μ-loop
+benches-of-requires c κs = search needs
+
+cast-n : tie.Need-cast-n Inv-loop μ-loop
+cast-n c = search needs
 
 loop-holds : tie.Need-loop-holds Inv-loop μ-loop
 unfolding some
@@ -40,7 +46,7 @@ forbids-at-requires c κs = search needs
 
 returns : tie.Need-returns Inv-loop μ-loop
 unfolding forbidsOf
-returns c = search (some-found, forbids-heard)
+returns c = search (found-among, forbids-heard)
 
 add-k : tie.Need-add-k Inv-loop μ-loop
 add-k c = search needs
@@ -53,7 +59,7 @@ loop-again c = (search needs, search (some-passed, forbids-heard))
 
 returns-2 : tie.Need-returns-2 Inv-loop μ-loop
 unfolding forbidsOf
-returns-2 c = search some-none
+returns-2 c = search none-among
 
 pub forbids-spec : {M : Type 1} → statement M
 forbids-spec =
@@ -61,6 +67,8 @@ forbids-spec =
     (tie.spec
     Inv-loop
     μ-loop
+    benches-of-requires
+    cast-n
     loop-holds
     has-requires
     mul-forbids-at

@@ -12,10 +12,16 @@ use Rattle.bench.proofs.Bench.gather.Statement.{statement}
 use Rattle.bench.proofs.Bench.gather.Tie as tie
 
 abbrev Inv-loop : tie.InvT-loop
-Inv-loop h both value₀ k₀ value k = (k ≤ 16) × (value ≡ least value₀ both (h .values) k)
+Inv-loop h both value₀ n k₀ value k = (k ≤ n) × (value ≡ least value₀ both (h .values) k)
 
 abbrev μ-loop : tie.MeasureT-loop
-μ-loop h both value₀ k₀ value k = 16 - k
+μ-loop h both value₀ n k₀ value k = n - k
+
+benches-of-requires : tie.Need-benches-of-requires Inv-loop μ-loop
+benches-of-requires c κs = search needs
+
+cast-n : tie.Need-cast-n Inv-loop μ-loop
+cast-n c = search needs
 
 loop-holds : tie.Need-loop-holds Inv-loop μ-loop
 unfolding least
@@ -38,7 +44,7 @@ loop-less c = search needs
 
 loop-again : tie.Need-loop-again Inv-loop μ-loop
 loop-again c =
-    let a = c .before .before .before .before .before .args in
+    let a = c .before .before .before .before .before .before .args in
     let v = a .self .value .0 in
     let s = bitAnd (a .self .world) (a .t2 .set) in
     let l = a .t2 .values in
@@ -52,10 +58,10 @@ loop-again c =
 returns : tie.Need-returns Inv-loop μ-loop
 unfolding gatherOf
 returns c =
-    let b = c .before .before .before .args .self in
-    let h = c .before .before .before .args .t2 in
+    let b = c .before .before .before .before .args .self in
+    let h = c .before .before .before .before .args .t2 in
     ap (λ (n : ℕ). record { value = record { 0 = n }; world = bitAnd (b .world) (h .set) })
-    (c .before .loop .inv .1 ∙ ap (least (b .value .0) (bitAnd (b .world) (h .set)) (h .values)) (le-antisymm (c .before .loop .inv .0) (c .loop-test .left)))
+    (c .before .loop .inv .1 ∙ ap (least (b .value .0) (bitAnd (b .world) (h .set)) (h .values)) (le-antisymm (c .before .loop .inv .0) (c .loop-test .left) ∙ c .before .before .benches-of .ensures .0))
 
 pub gather-spec : {M : Type 1} → statement M
 gather-spec =
@@ -63,6 +69,8 @@ gather-spec =
     (tie.spec
     Inv-loop
     μ-loop
+    benches-of-requires
+    cast-n
     loop-holds
     has-requires
     mul-v

@@ -8,12 +8,12 @@ use Rattle.bench.proofs.Bench.go_on.Tie as tie
 gather-requires : tie.Need-gather-requires
 gather-requires c κs = search needs
 
-add-t8 : tie.Need-add-t8
-add-t8 c = search needs
+add-t9 : tie.Need-add-t9
+add-t9 c = search needs
 
 returns : tie.Need-returns
 unfolding goOnOf inRound
 returns c = simp (c .before .before .gather .ensures)
 
 pub go-on-spec : {M : Type 1} → statement M
-go-on-spec = tie.close (tie.spec gather-requires add-t8 returns)
+go-on-spec = tie.close (tie.spec gather-requires add-t9 returns)

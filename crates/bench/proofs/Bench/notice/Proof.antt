@@ -1,6 +1,5 @@
 -- `Bench::notice`: by whether there is such a bench.
-use Rattle.sets.proofs.Numbers.{bench-first, bench-place}
-use Rattle.bench.proofs.Numbers.{known, notice-known, notice-unknown}
+use Rattle.bench.proofs.Numbers.{counted, placed, notice-known, notice-unknown}
 use borrow.Author.Needs.{needs}
 use Rattle.bench.proofs.Bench.notice.Statement.{statement}
 use Rattle.bench.proofs.Bench.notice.Tie as tie
@@ -9,13 +8,13 @@ is-bench-requires : tie.Need-is-bench-requires
 is-bench-requires c κs = search needs
 
 sub-notice-at : tie.Need-sub-notice-at
-sub-notice-at c = search (bench-first, known)
+sub-notice-at c = search counted
 
 cast-notice-at : tie.Need-cast-notice-at
 cast-notice-at c = search needs
 
 notice-at-requires : tie.Need-notice-at-requires
-notice-at-requires c κs = search (bench-place, known)
+notice-at-requires c κs = search placed
 
 returns : tie.Need-returns
 returns c = search notice-known

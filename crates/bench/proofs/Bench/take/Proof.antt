@@ -1,6 +1,5 @@
 -- `Bench::take`: by whether there is such a bench.
-use Rattle.sets.proofs.Numbers.{bench-first, bench-place}
-use Rattle.bench.proofs.Numbers.{known, take-known, take-unknown}
+use Rattle.bench.proofs.Numbers.{counted, placed, take-known, take-unknown}
 use borrow.Author.Needs.{needs}
 use Rattle.bench.proofs.Bench.take.Statement.{statement}
 use Rattle.bench.proofs.Bench.take.Tie as tie
@@ -9,13 +8,13 @@ is-bench-requires : tie.Need-is-bench-requires
 is-bench-requires c κs = search needs
 
 sub-take-at : tie.Need-sub-take-at
-sub-take-at c = search (bench-first, known)
+sub-take-at c = search counted
 
 cast-take-at : tie.Need-cast-take-at
 cast-take-at c = search needs
 
 take-at-requires : tie.Need-take-at-requires
-take-at-requires c κs = search (bench-place, known)
+take-at-requires c κs = search placed
 
 returns : tie.Need-returns
 returns c = search take-known

@@ -28,6 +28,9 @@ concluded-requires c κs = search needs
 returns-3 : tie.Need-returns-3
 returns-3 c = search turn-decides
 
+rounds-of-requires : tie.Need-rounds-of-requires
+rounds-of-requires c κs = search needs
+
 refused-requires-3 : tie.Need-refused-requires-3
 refused-requires-3 c κs = search needs
 
@@ -52,6 +55,7 @@ turn-spec =
     forbids-requires
     concluded-requires
     returns-3
+    rounds-of-requires
     refused-requires-3
     returns-4
     go-on-requires

@@ -1,19 +1,26 @@
--- `shuts_out`: no bench below j shuts the bench out.
+-- `lacked_by_one`: the world of no bench below j lacks the bench.
 use borrow.Author.Needs.{needs}
 use mathlib.Core.Path.{_≡_, refl}
 use mathlib.Core.Bool.{false}
 use Prim.Native.Nat.{_≤_, _-_}
 use Rattle.common.specs.Places.{some}
 use Rattle.tables.specs.Steps.{lackedAt, lackedByOne}
-use Rattle.common.proofs.Places.{some-found, some-passed, some-none}
+use Rattle.common.proofs.Places.{some-passed}
+use Rattle.bench.proofs.Visits.{found-among, none-among}
 use Rattle.reads.proofs.worlds.lacked_by_one.Statement.{statement}
 use Rattle.reads.proofs.worlds.lacked_by_one.Tie as tie
 
 abbrev Inv-loop : tie.InvT-loop
-Inv-loop benches logs k j₀ j = (j ≤ 16) × (some (lackedAt 96 benches logs k) j ≡ false)
+Inv-loop benches logs k n j₀ j = (j ≤ n) × (some (lackedAt benches logs k) j ≡ false)
 
 abbrev μ-loop : tie.MeasureT-loop
-μ-loop benches logs k j₀ j = 16 - j
+μ-loop benches logs k n j₀ j = n - j
+
+benches-of-requires : tie.Need-benches-of-requires Inv-loop μ-loop
+benches-of-requires c κs = search needs
+
+cast-n : tie.Need-cast-n Inv-loop μ-loop
+cast-n c = search needs
 
 loop-holds : tie.Need-loop-holds Inv-loop μ-loop
 unfolding some
@@ -24,7 +31,7 @@ lacked-at-requires c κs = search needs
 
 returns : tie.Need-returns Inv-loop μ-loop
 unfolding lackedByOne
-returns c = search some-found
+returns c = search found-among
 
 add-j : tie.Need-add-j Inv-loop μ-loop
 add-j c = search needs
@@ -37,7 +44,7 @@ loop-again c = (search needs, search some-passed)
 
 returns-2 : tie.Need-returns-2 Inv-loop μ-loop
 unfolding lackedByOne
-returns-2 c = search some-none
+returns-2 c = search none-among
 
 pub lacked-by-one-spec : {M : Type 1} → statement M
 lacked-by-one-spec =
@@ -45,6 +52,8 @@ lacked-by-one-spec =
     (tie.spec
     Inv-loop
     μ-loop
+    benches-of-requires
+    cast-n
     loop-holds
     lacked-at-requires
     returns

@@ -1,19 +1,26 @@
--- `leaves_out`: no bench below j is left out.
+-- `lacks_one`: the world lacks no bench below j.
 use borrow.Author.Needs.{needs}
 use mathlib.Core.Path.{_≡_, refl}
 use mathlib.Core.Bool.{false}
 use Prim.Native.Nat.{_≤_, _-_}
 use Rattle.common.specs.Places.{some}
 use Rattle.tables.specs.Steps.{lacksAt, lacksOne}
-use Rattle.common.proofs.Places.{some-found, some-passed, some-none}
+use Rattle.common.proofs.Places.{some-passed}
+use Rattle.bench.proofs.Visits.{found-among, none-among}
 use Rattle.reads.proofs.worlds.lacks_one.Statement.{statement}
 use Rattle.reads.proofs.worlds.lacks_one.Tie as tie
 
 abbrev Inv-loop : tie.InvT-loop
-Inv-loop benches world j₀ j = (j ≤ 16) × (some (lacksAt benches world) j ≡ false)
+Inv-loop benches world n j₀ j = (j ≤ n) × (some (lacksAt benches world) j ≡ false)
 
 abbrev μ-loop : tie.MeasureT-loop
-μ-loop benches world j₀ j = 16 - j
+μ-loop benches world n j₀ j = n - j
+
+benches-of-requires : tie.Need-benches-of-requires Inv-loop μ-loop
+benches-of-requires c κs = search needs
+
+cast-n : tie.Need-cast-n Inv-loop μ-loop
+cast-n c = search needs
 
 loop-holds : tie.Need-loop-holds Inv-loop μ-loop
 unfolding some
@@ -24,7 +31,7 @@ lacks-at-requires c κs = search needs
 
 returns : tie.Need-returns Inv-loop μ-loop
 unfolding lacksOne
-returns c = search some-found
+returns c = search found-among
 
 add-j : tie.Need-add-j Inv-loop μ-loop
 add-j c = search needs
@@ -37,7 +44,7 @@ loop-again c = (search needs, search some-passed)
 
 returns-2 : tie.Need-returns-2 Inv-loop μ-loop
 unfolding lacksOne
-returns-2 c = search some-none
+returns-2 c = search none-among
 
 pub lacks-one-spec : {M : Type 1} → statement M
 lacks-one-spec =
@@ -45,6 +52,8 @@ lacks-one-spec =
     (tie.spec
     Inv-loop
     μ-loop
+    benches-of-requires
+    cast-n
     loop-holds
     lacks-at-requires
     returns

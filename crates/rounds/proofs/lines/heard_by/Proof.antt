@@ -4,6 +4,7 @@ use mathlib.Core.Path.{_≡_, refl, _∙_}
 use mathlib.Core.Logic.{⊎-elim}
 use Prim.Native.Nat.{_≤_, _-_}
 use Rattle.common.proofs.Places.{only-small}
+use Rattle.kinds.specs.Sizes.{places}
 use Rattle.tables.specs.Rows.{rows}
 use Rattle.tables.specs.Lines.{withMessage, heardTo}
 use Rattle.rounds.proofs.Hearing.{heard-before, heard-past, heard-all, heard-more, heard-same}
@@ -11,10 +12,10 @@ use Rattle.rounds.proofs.lines.heard_by.Statement.{statement}
 use Rattle.rounds.proofs.lines.heard_by.Tie as tie
 
 abbrev Inv-loop : tie.InvT-loop
-Inv-loop benches log k r h₀ at j₀ h j = (j ≤ 16) × (h ≡ heardTo 16 96 log (rows 16 benches k) j)
+Inv-loop benches log k r h₀ at n j₀ h j = (j ≤ n) × (h ≡ heardTo log (rows places benches k) j)
 
 abbrev μ-loop : tie.MeasureT-loop
-μ-loop benches log k r h₀ at j₀ h j = 16 - j
+μ-loop benches log k r h₀ at n j₀ h j = n - j
 
 round-at-requires : tie.Need-round-at-requires Inv-loop μ-loop
 round-at-requires c κs = search needs
@@ -22,11 +23,20 @@ round-at-requires c κs = search needs
 returns : tie.Need-returns Inv-loop μ-loop
 returns c = search heard-before
 
+cast-if2 : tie.Need-cast-if2 Inv-loop μ-loop
+cast-if2 c = search needs
+
 returns-2 : tie.Need-returns-2 Inv-loop μ-loop
 returns-2 c = search heard-past
 
 cast-at : tie.Need-cast-at Inv-loop μ-loop
 cast-at c = search needs
+
+benches-of-requires : tie.Need-benches-of-requires Inv-loop μ-loop
+benches-of-requires c κs = search needs
+
+cast-n : tie.Need-cast-n Inv-loop μ-loop
+cast-n c = search needs
 
 loop-holds : tie.Need-loop-holds Inv-loop μ-loop
 unfolding heardTo
@@ -87,7 +97,7 @@ loop-again : tie.Need-loop-again Inv-loop μ-loop
 unfolding withMessage
 loop-again c =
     let way = c .before .before .before in
-    let at-round-at = way .before .before .before in
+    let at-round-at = way .before .before .before .before in
     let r = at-round-at .round-at .ensures in
     let n = c .before .taken-at .ensures in
     let e = c .before .before .before .loop .inv .1 in (
@@ -97,7 +107,7 @@ loop-again c =
     )
 
 returns-3 : tie.Need-returns-3 Inv-loop μ-loop
-returns-3 c = heard-all _ _ _ (c .before .before .before .before .round-at .ensures) _ _ (c .before .before .before .if1 .left) (c .before .before .if2 .left) (c .before .loop .inv .1) (c .before .loop .inv .0) (c .loop-test .left)
+returns-3 c = heard-all _ _ _ _ (c .before .before .before .before .before .round-at .ensures) _ (c .before .before .benches-of .ensures .0) _ _ (c .before .before .before .before .if1 .left) (c .before .before .before .if2 .left) (c .before .loop .inv .1) (c .before .loop .inv .0) (c .loop-test .left)
 
 pub heard-by-spec : {M : Type 1} → statement M
 heard-by-spec =
@@ -107,8 +117,11 @@ heard-by-spec =
     μ-loop
     round-at-requires
     returns
+    cast-if2
     returns-2
     cast-at
+    benches-of-requires
+    cast-n
     loop-holds
     taken-at-requires
     only-requires

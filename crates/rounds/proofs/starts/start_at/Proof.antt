@@ -13,6 +13,9 @@ returns c = search start-state
 returns-2 : tie.Need-returns-2
 returns-2 c = search start-value
 
+fits-requires : tie.Need-fits-requires
+fits-requires c κs = search needs
+
 returns-3 : tie.Need-returns-3
 returns-3 c = search start-above
 
@@ -36,9 +39,9 @@ returns-6 c =
     let whole = c .before .before .before .before in
     let inside = whole .before .before .before in
     let below = inside .before .before in
-    let slot = below .before in
+    let slot = below .before .before in
     let fresh = slot .before .before in
-    start-shut _ _ _ _ _ _ (fresh .before .state-at .ensures) (fresh .if1 .left) (slot .if2 .left) (below .if3 .left) _ (inside .before .has .ensures) (inside .if4 .left)
+    start-shut _ _ _ _ _ _ _ (fresh .before .state-at .ensures) (fresh .if1 .left) (slot .if2 .left) _ (below .before .fits2 .ensures) (below .if3 .left) _ (inside .before .has .ensures) (inside .if4 .left)
     _ (whole .before .lacks-one .ensures) (whole .if5 .left) _ (c .before .lacked-by-one .ensures) (c .if6 .taken)
 
 begin-requires : tie.Need-begin-requires
@@ -54,6 +57,7 @@ start-at-spec =
     state-at-requires
     returns
     returns-2
+    fits-requires
     returns-3
     has-requires
     returns-4

@@ -7,10 +7,13 @@ use Rattle.run_report.proofs.benches.store_benches.Statement.{statement
 use Rattle.run_report.proofs.benches.store_benches.Tie as tie
 
 abbrev Inv-loop : tie.InvT-loop
-Inv-loop room₀ benches at₀ k₀ room at k = Listed room₀ benches room at k
+Inv-loop room₀ benches at₀ n k₀ room at k = Listed n room₀ benches room at k
 
 abbrev μ-loop : tie.MeasureT-loop
-μ-loop room₀ benches at₀ k₀ room at k = 16 - k
+μ-loop room₀ benches at₀ n k₀ room at k = n - k
+
+benches-of-requires : tie.Need-benches-of-requires Inv-loop μ-loop
+benches-of-requires c κs = search needs
 
 loop-holds : tie.Need-loop-holds Inv-loop μ-loop
 loop-holds c = search listed-none
@@ -42,6 +45,7 @@ store-benches-spec =
     (tie.spec
     Inv-loop
     μ-loop
+    benches-of-requires
     loop-holds
     add-b
     store-bench-requires

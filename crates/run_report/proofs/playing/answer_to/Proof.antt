@@ -16,10 +16,10 @@ enum-told c = search needs
 returns : tie.Need-returns
 returns c =
     let known = c .before .before .before .before in
-    does-links _ _ (known .before .before .pre) _ _ (known .line .given .1) _ _ _ (c .step .ensures)
+    does-links _ _ _ (known .before .before .pre) _ _ (known .line .given .1) _ _ _ (c .step .ensures)
 
 returns-2 : tie.Need-returns-2
-returns-2 c = malformed-links _ _ (c .before .before .pre) _ (c .enum-told .given .1)
+returns-2 c = malformed-links _ _ _ (c .before .before .pre) _ (c .enum-told .given .1)
 
 pub answer-to-spec : {M : Type 1} → statement M
 answer-to-spec = tie.close (tie.spec enum-known-line step-requires enum-told returns returns-2)
