@@ -10,13 +10,13 @@ use lib.Dec.{eqb, leb}
 use borrow.Author.Tests.{eqb-true, eqb-false, ne-eqb, le-leb, lt-leb, leb-true, leb-false}
 use Rattle.common.specs.Benches.{isBench}
 use Rattle.common.proofs.Tests.{both, split}
-use Rattle.common.proofs.Checks.{Fails}
+use Rattle.common.specs.Checks.{Fails}
 use Rattle.book.specs.Book.{Sweep, only, openSlot, joined, Book, newBook, withRow, swept, cut, advanced, Step, join, sweep, close, end, handOut, Answer, answer, checks, step}
 use Rattle.book.specs.Traffic.{bookFrom, accepted, dropped, handedOut, inOrder, along, tally}
 use Rattle.book.proofs.Only.{only-append, only-none, only-same, all-any}
-use Rattle.book.proofs.Tags.{sentIn, ofSlot, sentFrom}
+use Rattle.book.specs.Sweeps.{sentIn, ofSlot, sentFrom, Holding}
 use Rattle.book.proofs.Outcomes.{positive, join-ind, sweep-ind, close-ind, end-ind, handOut-ind}
-use Rattle.book.proofs.Kept.{Kept, Holding, kept-new, kept-step, kept-held}
+use Rattle.book.proofs.Kept.{Kept, kept-new, kept-step, kept-held}
 
 -- ---- laws of tallies
 

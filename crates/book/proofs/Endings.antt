@@ -7,14 +7,15 @@ use mathlib.Core.List.{List, [], _∷_}
 use native.Mathlib.Omega.{arith}
 use lib.Dec.{eqb, leb}
 use borrow.Author.Tests.{eq-eqb, ne-eqb, le-leb, not-true}
+use Rattle.common.specs.Lists.{All, none, more}
 use Rattle.common.specs.Updates.{put}
 use Rattle.common.proofs.Tests.{clash, cond-ind}
 use Rattle.common.proofs.Updates.{put-ind, put-same}
-use Rattle.common.proofs.Checks.{Fails, here, later}
+use Rattle.common.specs.Checks.{Fails, here, later}
 use Rattle.book.specs.Book.{Sweep, only, Row, unknown, joined, ended, isOpen, openSlot, Book, withRow, swept, cut, advanced, Step, join, sweep, close, end, handOut, Answer, answer, checks, step}
 use Rattle.book.specs.Traffic.{bookFrom, handedOut, inOrder, along}
-use Rattle.book.proofs.Only.{All, none, more, all-append, all-only, all-any}
-use Rattle.book.proofs.Tags.{sentIn, sentFrom}
+use Rattle.book.proofs.Only.{all-append, all-only, all-any}
+use Rattle.book.specs.Sweeps.{sentIn, sentFrom}
 use Rattle.book.proofs.Outcomes.{join-ind, sweep-ind, close-ind, end-ind, handOut-ind, positive}
 
 -- ---- an open slot never falls

@@ -2,41 +2,32 @@
 -- that document 01's numbers rest on. What it consists of is nobody else's matter. Assumes nothing.
 use mathlib.Core.Path.{_≡_, refl}
 use Prim.Native.Nat.{ℕ, suc, _≤_, _<_}
-use mathlib.Core.Bool.{true, not, _&&_, _||_}
+use mathlib.Core.Bool.{true, not, _&&_}
 use mathlib.Core.List.{List, [], _∷_}
 use native.Mathlib.Omega.{arith}
 use lib.ListN.{length, length-append}
-use lib.Dec.{eqb, leb, ltb}
-use borrow.Author.Tests.{eqb-false, eq-eqb, leb-true, leb-false, le-leb, ltb-true, not-true}
+use lib.Dec.{eqb, leb}
+use borrow.Author.Tests.{eqb-false, eq-eqb, leb-true, leb-false, le-leb, not-true}
+use Rattle.common.specs.Lists.{All, none, more}
 use Rattle.common.specs.Updates.{put}
-use Rattle.common.proofs.Tests.{both, implies, clash, split}
+use Rattle.common.proofs.Tests.{both, clash, split}
 use Rattle.common.proofs.Updates.{put-ind}
-use Rattle.common.proofs.Benches.{In, every-get}
-use Rattle.book.specs.Book.{Sweep, only, Row, unknown, joined, ended, isMember, openSlot, mayGo, Book, newBook, withRow, swept, cut, advanced, Step, join, sweep, close, end, handOut, answer, step}
+use Rattle.common.specs.Benches.{In}
+use Rattle.book.specs.Book.{lastSlot, mostHeld, Sweep, only, Row, unknown, joined, ended, openSlot, mayGo, Book, newBook, withRow, swept, cut, advanced, Step, join, sweep, close, end, handOut, answer, step}
+use Rattle.book.specs.Sweeps.{Lies, Holding}
 use Rattle.book.specs.Traffic.{bookFrom}
-use Rattle.book.proofs.Only.{All, none, more, all-append, all-map, all-only, only-length}
+use Rattle.book.proofs.Only.{all-append, all-map, all-only, only-length}
+use Rattle.book.proofs.Answers.{may-go-get}
 use Rattle.book.proofs.Outcomes.{join-ind, sweep-ind, close-ind, end-ind, handOut-ind}
-
--- a sender with such a row may have a sweep held in slot k
-abbrev pub Lies : ℕ → Row → Type 0
-Lies k unknown = ⊥
-Lies k (joined f o) = (f ≤ k) × (k ≤ o)
-Lies k (ended f o e) = (f ≤ k) × (k ≤ o) × (k < e)
 
 -- the row of a sender, at next slot k: it has not opened a slot below its first, and without an end its open slot is not below k
 abbrev Stands : ℕ → Row → Type 0
 Stands k unknown = _≡_ {A = ℕ} 0 0
-Stands k (joined f o) = (f ≤ o) × (k ≤ o) × (o ≤ 65535)
-Stands k (ended f o e) = (f ≤ o) × (e ≤ o) × (o ≤ 65535)
-
--- a sweep that is held
-pub record Holding (n k : ℕ) (rows : ℕ → Row) (w : Sweep) : Type 0 where
-  pub from : In n (w .sender)
-  pub due : k ≤ w .slot
-  pub lies : Lies (w .slot) (rows (w .sender))
+Stands k (joined f o) = (f ≤ o) × (k ≤ o) × (o ≤ suc lastSlot)
+Stands k (ended f o e) = (f ≤ o) × (e ≤ o) × (o ≤ suc lastSlot)
 
 record Facts (n : ℕ) (b : Book) : Type 0 where
-  few : length (b .held) ≤ 1024
+  few : length (b .held) ≤ mostHeld
   outside : (s : ℕ) → (In n s → ⊥) → b .rows s ≡ unknown
   stands : (s : ℕ) → Stands (b .next) (b .rows s)
   holding : All (Holding n (b .next) (b .rows)) (b .held)
@@ -53,7 +44,7 @@ kept-new n begin = record { few = omega arith; outside = λ s h. refl; stands = 
 -- ---- every step keeps it
 
 -- a row put anew, which lets every sweep lie where it lay
-row-anew : (n : ℕ) (b : Book) (s : ℕ) (r : Row) (l : List Sweep) → Facts n b → In n s → Stands (b .next) r → All (Holding n (b .next) (put (b .rows) s r)) l → length l ≤ 1024
+row-anew : (n : ℕ) (b : Book) (s : ℕ) (r : Row) (l : List Sweep) → Facts n b → In n s → Stands (b .next) r → All (Holding n (b .next) (put (b .rows) s r)) l → length l ≤ mostHeld
     → Facts n (record { next = b .next; rows = put (b .rows) s r; held = l })
 row-anew n b s r l h i g a z =
     record {
@@ -76,7 +67,7 @@ module _ (n : ℕ) (b : Book) (h : Facts n b) where
   lies-joined : (w : Sweep) (s f o : ℕ) → b .rows s ≡ joined f o → w .sender ≡ s → Lies (w .slot) (b .rows (w .sender)) → (f ≤ w .slot) × (w .slot ≤ o)
   lies-joined w s f o e q l = rw (q, e) at l
 
-  stands-joined : (s f o : ℕ) → b .rows s ≡ joined f o → (f ≤ o) × (b .next ≤ o) × (o ≤ 65535)
+  stands-joined : (s f o : ℕ) → b .rows s ≡ joined f o → (f ≤ o) × (b .next ≤ o) × (o ≤ suc lastSlot)
   stands-joined s f o e = let g = h .stands s in rw e at g
 
   kept-join : (s f : ℕ) → Facts n (step n b (join s f) .book)
@@ -120,14 +111,11 @@ module _ (n : ℕ) (b : Book) (h : Facts n b) where
 
   -- where slot `next` may go out, nobody's open slot is that one
   let-go : (s : ℕ) → In n s → (f o : ℕ) → b .rows s ≡ joined f o → mayGo n (b .next) (b .rows) ≡ true → suc (b .next) ≤ o
-  unfolding mayGo isMember openSlot
   let-go s i f o e m =
-      let t = every-get n (λ j. not (isMember (b .next) (b .rows j)) || ltb (b .next) (openSlot (b .rows j))) s m i in
       let g = stands-joined s f o e in
-      let t′ : (not (leb f (b .next)) || ltb (b .next) o) ≡ true = rw e at t in
-      split (leb f (b .next))
-      (λ k. ltb-true (b .next) o (implies (leb f (b .next)) (ltb (b .next) o) t′ k))
-      (λ k. omega (arith, leb-false f (b .next) k))
+      let t = may-go-get n (b .next) (b .rows) m s i in
+      let t′ : f ≤ b .next → b .next < o = rw e at t in
+      split (leb f (b .next)) (λ k. t′ (leb-true f (b .next) k)) (λ k. omega (arith, leb-false f (b .next) k))
 
   stands-next : mayGo n (b .next) (b .rows) ≡ true → (s : ℕ) (r : Row) → b .rows s ≡ r → Stands (b .next) r → Stands (suc (b .next)) r
   stands-next m s unknown e g = refl
@@ -170,14 +158,24 @@ kept-from n b h (s ∷ l) = kept-from n (step n b s .book) (kept-step n b h s) l
 
 module _ (n : ℕ) (b : Book) (h : Kept n b) where
   -- at most 1,024 sweeps are held
-  pub kept-few : length (b .held) ≤ 1024
+  pub kept-few : length (b .held) ≤ mostHeld
   unfolding Kept
   kept-few = h .few
 
   -- the next slot is not above the open slot of a sender without end, and that is not below its first
-  pub kept-open : (s f o : ℕ) → b .rows s ≡ joined f o → (b .next ≤ o) × (f ≤ o) × (o ≤ 65535)
+  pub kept-open : (s f o : ℕ) → b .rows s ≡ joined f o → (b .next ≤ o) × (f ≤ o) × (o ≤ suc lastSlot)
   unfolding Kept
   kept-open s f o e = let g = stands-joined n b h s f o e in (g .1, g .0, g .2)
+
+  -- no open slot is above 65,535
+  pub kept-slot : (s : ℕ) → openSlot (b .rows s) ≤ suc lastSlot
+  unfolding Kept openSlot
+  kept-slot s = go (b .rows s) (h .stands s)
+    where
+      go : (r : Row) → Stands (b .next) r → openSlot r ≤ suc lastSlot
+      go unknown g = omega arith
+      go (joined f o) g = g .2
+      go (ended f o e) g = g .2
 
   -- every sweep held is a sender's, not below the next slot, and lies between its sender's first and open slot and below its end
   pub kept-held : All (Holding n (b .next) (b .rows)) (b .held)

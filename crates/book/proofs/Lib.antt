@@ -1,9 +1,12 @@
 pub mod Answers
 pub mod Outcomes
+pub mod Done
 pub mod Numbers
+pub mod Unended
 pub mod Only
 pub mod Kept
 pub mod Tags
+pub mod Senders
 pub mod Accounts
 pub mod Endings
 pub mod Joint

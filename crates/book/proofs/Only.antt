@@ -5,6 +5,7 @@ use mathlib.Core.Bool.{Bool, true, false, not, false≢true}
 use mathlib.Core.List.{List, [], _∷_, _++_, map, append-nil}
 use native.Mathlib.Omega.{arith}
 use lib.ListN.{length}
+use Rattle.common.specs.Lists.{All, none, more}
 use Rattle.common.proofs.Tests.{split}
 use Rattle.book.specs.Book.{only}
 
@@ -58,10 +59,6 @@ only-rest p (x ∷ l) e = split (p x)
     (λ n. rw n (ap (λ k. x ∷ k) (only-rest p l (sym (only-no p x l n) ∙ e))))
 
 -- ---- a fact of each element
-
-pub data All {A : Type 0} (P : A → Type 0) : List A → Type 0 where
-  none : All P []
-  more : (x : A) (l : List A) → P x → All P l → All P (x ∷ l)
 
 pub all-append : {A : Type 0} (P : A → Type 0) (l m : List A) → All P l → All P m → All P (l ++ m)
 all-append P l m none b = b

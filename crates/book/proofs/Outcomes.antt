@@ -7,13 +7,13 @@ use mathlib.Core.List.{List, [], _∷_}
 use lib.ListN.{length}
 use lib.Dec.{eqb}
 use borrow.Author.Tests.{leb-true, ltb-true, not-true}
-use Rattle.common.specs.Checks.{Check, needs}
+use Rattle.common.specs.Checks.{Check, needs, Holds, Fails, here, later}
 use Rattle.common.proofs.Tests.{both}
-use Rattle.common.proofs.Checks.{Holds, Fails, here, later, first-check, other-checks, judge-ind, judge-fails, judge-holds}
-use Rattle.common.proofs.Benches.{In}
+use Rattle.common.proofs.Checks.{first-check, other-checks, judge-ind, judge-fails, judge-holds}
+use Rattle.common.specs.Benches.{In}
 use Rattle.common.proofs.Benches.{bench-in}
 use Rattle.book.proofs.Answers.{unknown-is, open-is}
-use Rattle.book.specs.Book.{unknown, joined, ended, firstSlot, openSlot, mayGo, tagsOf, Book, withRow, swept, cut, advanced, Step, join, sweep, close, end, handOut, Answer, answer, checks, after, step}
+use Rattle.book.specs.Book.{lastSlot, mostHeld, unknown, joined, ended, firstSlot, openSlot, mayGo, tagsOf, Book, withRow, swept, cut, advanced, Step, join, sweep, close, end, handOut, Answer, answer, checks, after, step}
 
 -- ---- no refusal has the number 0, and whatever is done has it
 
@@ -68,30 +68,30 @@ step-holds n b s h = judge-holds (λ k. answer k [] b) (checks n b s) (after n b
 
 module _ (n : ℕ) (b : Book) (P : Answer → Type 0) where
   pub join-ind : (s f : ℕ) → ((k : ℕ) → Fails (checks n b (join s f)) k → P (answer k [] b))
-      → (In n s → b .rows s ≡ unknown → b .next ≤ f → f ≤ 65534 → P (answer 0 [] (withRow s (joined f f) b))) → P (step n b (join s f))
+      → (In n s → b .rows s ≡ unknown → b .next ≤ f → f ≤ lastSlot → P (answer 0 [] (withRow s (joined f f) b))) → P (step n b (join s f))
   unfolding checks after
   join-ind s f r d = step-ind n b (join s f) P r λ h.
       let h₂ = other-checks 1 _ _ h in
       let h₃ = both _ _ (first-check 14 _ _ (other-checks 13 _ _ h₂)) in
-      d (bench-in n s (first-check 1 _ _ h)) (unknown-is (b .rows s) (first-check 13 _ _ h₂)) (leb-true (b .next) f (h₃ .0)) (leb-true f 65534 (h₃ .1))
+      d (bench-in n s (first-check 1 _ _ h)) (unknown-is (b .rows s) (first-check 13 _ _ h₂)) (leb-true (b .next) f (h₃ .0)) (leb-true f lastSlot (h₃ .1))
 
   pub sweep-ind : (s t : ℕ) → ((k : ℕ) → Fails (checks n b (sweep s t)) k → P (answer k [] b))
-      → ((f o : ℕ) → In n s → b .rows s ≡ joined f o → o ≤ 65534 → length (b .held) < 1024 → P (answer 0 [] (swept (record { sender = s; slot = o; tag = t }) b))) → P (step n b (sweep s t))
+      → ((f o : ℕ) → In n s → b .rows s ≡ joined f o → o ≤ lastSlot → length (b .held) < mostHeld → P (answer 0 [] (swept (record { sender = s; slot = o; tag = t }) b))) → P (step n b (sweep s t))
   unfolding checks after openSlot
   sweep-ind s t r d = step-ind n b (sweep s t) P r λ h.
       let h₂ = other-checks 1 _ _ h in
       let h₃ = other-checks 15 _ _ h₂ in
       let o = open-is (b .rows s) (first-check 15 _ _ h₂) in
-      let h₁₇ = leb-true (openSlot (b .rows s)) 65534 (first-check 17 _ _ h₃) in
-      rw (o .2) (d (o .0) (o .1) (bench-in n s (first-check 1 _ _ h)) (o .2) (rw (o .2) at h₁₇) (ltb-true (length (b .held)) 1024 (first-check 25 _ _ (other-checks 17 _ _ h₃))))
+      let h₁₇ = leb-true (openSlot (b .rows s)) lastSlot (first-check 17 _ _ h₃) in
+      rw (o .2) (d (o .0) (o .1) (bench-in n s (first-check 1 _ _ h)) (o .2) (rw (o .2) at h₁₇) (ltb-true (length (b .held)) mostHeld (first-check 25 _ _ (other-checks 17 _ _ h₃))))
 
   pub close-ind : (s : ℕ) → ((k : ℕ) → Fails (checks n b (close s)) k → P (answer k [] b))
-      → ((f o : ℕ) → In n s → b .rows s ≡ joined f o → o ≤ 65534 → P (answer 0 [] (withRow s (joined f (suc o)) b))) → P (step n b (close s))
+      → ((f o : ℕ) → In n s → b .rows s ≡ joined f o → o ≤ lastSlot → P (answer 0 [] (withRow s (joined f (suc o)) b))) → P (step n b (close s))
   unfolding checks after openSlot firstSlot
   close-ind s r d = step-ind n b (close s) P r λ h.
       let h₂ = other-checks 1 _ _ h in
       let o = open-is (b .rows s) (first-check 15 _ _ h₂) in
-      let h₁₇ = leb-true (openSlot (b .rows s)) 65534 (first-check 17 _ _ (other-checks 15 _ _ h₂)) in
+      let h₁₇ = leb-true (openSlot (b .rows s)) lastSlot (first-check 17 _ _ (other-checks 15 _ _ h₂)) in
       rw (o .2) (d (o .0) (o .1) (bench-in n s (first-check 1 _ _ h)) (o .2) (rw (o .2) at h₁₇))
 
   pub end-ind : (s e : ℕ) → ((k : ℕ) → Fails (checks n b (end s e)) k → P (answer k [] b))
@@ -105,8 +105,8 @@ module _ (n : ℕ) (b : Book) (P : Answer → Type 0) where
       rw (o .2) (d (o .0) (o .1) (bench-in n s (first-check 1 _ _ h)) (o .2) (rw (o .2) at h₁₈) (leb-true (b .next) e (first-check 19 _ _ (other-checks 18 _ _ h₃))))
 
   pub handOut-ind : (room : ℕ) → ((k : ℕ) → Fails (checks n b (handOut room)) k → P (answer k [] b))
-      → (b .next ≤ 65534 → mayGo n (b .next) (b .rows) ≡ true → length (tagsOf n (b .next) (b .held)) ≤ room → P (answer 0 (tagsOf n (b .next) (b .held)) (advanced b))) → P (step n b (handOut room))
+      → (b .next ≤ lastSlot → mayGo n (b .next) (b .rows) ≡ true → length (tagsOf n (b .next) (b .held)) ≤ room → P (answer 0 (tagsOf n (b .next) (b .held)) (advanced b))) → P (step n b (handOut room))
   unfolding checks after
   handOut-ind room r d = step-ind n b (handOut room) P r λ h.
       let h₂ = other-checks 17 _ _ h in
-      d (leb-true (b .next) 65534 (first-check 17 _ _ h)) (first-check 24 _ _ h₂) (leb-true (length (tagsOf n (b .next) (b .held))) room (first-check 22 _ _ (other-checks 24 _ _ h₂)))
+      d (leb-true (b .next) lastSlot (first-check 17 _ _ h)) (first-check 24 _ _ h₂) (leb-true (length (tagsOf n (b .next) (b .held))) room (first-check 22 _ _ (other-checks 24 _ _ h₂)))

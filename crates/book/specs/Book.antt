@@ -9,6 +9,13 @@ use Rattle.common.specs.Checks.{Check, needs, judge}
 use Rattle.common.specs.Benches.{isBench, every}
 use Rattle.common.specs.Updates.{put}
 
+-- ---- Document 01's limits: the last slot that can be handed out, and the most sweeps that are held
+abbrev pub lastSlot : ℕ
+lastSlot = 65534
+
+abbrev pub mostHeld : ℕ
+mostHeld = 1024
+
 -- ---- A sweep: who sent it, the slot that was open then, its tag
 pub record Sweep : Type 0 where
   pub sender : ℕ
@@ -90,11 +97,11 @@ pub data Step : Type 0 where
 
 -- the checks of each step, in document 01's order
 unfoldable pub checks : ℕ → Book → Step → List Check
-checks n b (join s f) = needs 1 (isBench n s) ∷ needs 13 (not (hasJoined (b .rows s))) ∷ needs 14 (leb (b .next) f && leb f 65534) ∷ []
-checks n b (sweep s t) = needs 1 (isBench n s) ∷ needs 15 (isOpen (b .rows s)) ∷ needs 17 (leb (openSlot (b .rows s)) 65534) ∷ needs 25 (ltb (length (b .held)) 1024) ∷ []
-checks n b (close s) = needs 1 (isBench n s) ∷ needs 15 (isOpen (b .rows s)) ∷ needs 17 (leb (openSlot (b .rows s)) 65534) ∷ []
+checks n b (join s f) = needs 1 (isBench n s) ∷ needs 13 (not (hasJoined (b .rows s))) ∷ needs 14 (leb (b .next) f && leb f lastSlot) ∷ []
+checks n b (sweep s t) = needs 1 (isBench n s) ∷ needs 15 (isOpen (b .rows s)) ∷ needs 17 (leb (openSlot (b .rows s)) lastSlot) ∷ needs 25 (ltb (length (b .held)) mostHeld) ∷ []
+checks n b (close s) = needs 1 (isBench n s) ∷ needs 15 (isOpen (b .rows s)) ∷ needs 17 (leb (openSlot (b .rows s)) lastSlot) ∷ []
 checks n b (end s e) = needs 1 (isBench n s) ∷ needs 15 (hasJoined (b .rows s)) ∷ needs 16 (isOpen (b .rows s)) ∷ needs 18 (leb e (openSlot (b .rows s))) ∷ needs 19 (leb (b .next) e) ∷ []
-checks n b (handOut room) = needs 17 (leb (b .next) 65534) ∷ needs 24 (mayGo n (b .next) (b .rows)) ∷ needs 22 (leb (length (tagsOf n (b .next) (b .held))) room) ∷ []
+checks n b (handOut room) = needs 17 (leb (b .next) lastSlot) ∷ needs 24 (mayGo n (b .next) (b .rows)) ∷ needs 22 (leb (length (tagsOf n (b .next) (b .held))) room) ∷ []
 
 -- 0, the tags written and the book after, where every check holds; or a refusal's number, and the book as it was
 pub record Answer : Type 0 where

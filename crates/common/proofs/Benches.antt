@@ -1,17 +1,13 @@
 -- Laws of the numbers 1 to n, and of tests of each of them. Assumes nothing.
 use mathlib.Core.Path.{_≡_, refl}
-use Prim.Native.Nat.{ℕ, zero, suc, _+_, _≤_}
-use mathlib.Core.Bool.{Bool, true, _&&_}
+use Prim.Native.Nat.{ℕ, zero, suc, _+_}
+use mathlib.Core.Bool.{Bool, true, false, _&&_}
 use native.Mathlib.Numerals.{add-one}
 use native.Mathlib.Omega.{arith}
 use lib.Dec.{eqb, leb}
 use borrow.Author.Tests.{eqb-true, eqb-false, leb-true, le-leb}
-use Rattle.common.specs.Benches.{isBench, every}
-use Rattle.common.proofs.Tests.{both, split}
-
--- bench i is one of the benches 1 to n
-abbrev pub In : ℕ → ℕ → Type 0
-In n i = (1 ≤ i) × (i ≤ n)
+use Rattle.common.specs.Benches.{In, isBench, every}
+use Rattle.common.proofs.Tests.{both, clash, split}
 
 pub bench-in : (n b : ℕ) → isBench n b ≡ true → In n b
 unfolding isBench
@@ -34,6 +30,18 @@ pub every-make : (n : ℕ) (p : ℕ → Bool) → ((i : ℕ) → In n i → p i 
 unfolding every
 every-make zero p f = refl
 every-make (suc n) p f = let a = every-make n p (λ i h. f i (omega arith)) in let b = f (suc n) (omega arith) in cc
+
+-- where the test fails of some bench, one of which it fails
+pub every-fails : (n : ℕ) (p : ℕ → Bool) → every n p ≡ false → (i : ℕ) × In n i × (p i ≡ false)
+unfolding every
+every-fails zero p e = clash (cc)
+every-fails (suc n) p e = split (p (suc n))
+    (λ z. let r = every-fails n p (first-fails (every n p) (p (suc n)) e z) in (r .0, (omega arith), r .2))
+    (λ z. (suc n, (omega arith), z))
+  where
+    first-fails : (a c : Bool) → (a && c) ≡ false → c ≡ true → a ≡ false
+    first-fails true c e z = clash (cc)
+    first-fails false c e z = refl
 
 -- one more bench, as a loop counts
 pub every-next : (i : ℕ) (p : ℕ → Bool) → every (i + 1) p ≡ (every i p && p (i + 1))

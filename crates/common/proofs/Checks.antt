@@ -3,18 +3,9 @@ use mathlib.Core.Path.{_≡_, refl}
 use Prim.Native.Nat.{ℕ}
 use mathlib.Core.Bool.{Bool, true, false, _&&_}
 use mathlib.Core.List.{List, [], _∷_}
-use Rattle.common.specs.Checks.{Check, needs, judge}
+use Rattle.common.specs.Checks.{Check, needs, judge, Holds, nothing, also, Fails, here, later}
+use Rattle.common.specs.Lists.{OneOf, first, further}
 use Rattle.common.proofs.Tests.{both}
-
--- every check holds
-pub data Holds : List Check → Type 0 where
-  nothing : Holds []
-  also : (k : ℕ) (c : Bool) (l : List Check) → c ≡ true → Holds l → Holds (needs k c ∷ l)
-
--- the check with number k fails, and those before it hold
-pub data Fails : List Check → ℕ → Type 0 where
-  here : (k : ℕ) (c : Bool) (l : List Check) → c ≡ false → Fails (needs k c ∷ l) k
-  later : (j : ℕ) (c : Bool) (l : List Check) (k : ℕ) → c ≡ true → Fails l k → Fails (needs j c ∷ l) k
 
 pub first-check : (k : ℕ) (c : Bool) (l : List Check) → Holds (needs k c ∷ l) → c ≡ true
 first-check k c l (also j d m e h) = e
@@ -68,10 +59,6 @@ judge-both P r r′ d d′ (needs k true ∷ l) f h = judge-both P r r′ d d′
 judge-both P r r′ d d′ (needs k false ∷ l) f h = f k
 
 -- ---- the numbers
-
-pub data OneOf (k : ℕ) : List ℕ → Type 0 where
-  first : (l : List ℕ) → OneOf k (k ∷ l)
-  further : (j : ℕ) (l : List ℕ) → OneOf k l → OneOf k (j ∷ l)
 
 unfoldable pub numbers : List Check → List ℕ
 numbers [] = []

@@ -5,3 +5,4 @@ pub mod Worlds
 pub mod Places
 pub mod Sets
 pub mod Checks
+pub mod Counts

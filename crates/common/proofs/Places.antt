@@ -2,12 +2,13 @@
 use mathlib.Core.Path.{_≡_, sym, ap, _∙_, subst}
 use mathlib.Core.Bool.{Bool, true, false, _||_, or-true}
 use mathlib.Core.Logic.{⊎-elim}
-use Prim.Native.Nat.{ℕ, zero, suc, _+_, _-_, _%_, _^_, _<_, _≤_}
-use native.Mathlib.Nat.{mod-eq-of-lt, le-of-suc-le-suc, not-suc-le-zero, le-antisymm, eq-or-lt-of-le, zero-lt-suc, div-eq-of-lt, mul-mod-left, pow-le-pow-right, lt-of-lt-of-le}
+use Prim.Native.Nat.{ℕ, zero, suc, _+_, _-_, _/_, _%_, _^_, _<_, _≤_}
+use native.Mathlib.Nat.{mod-eq-of-lt, le-of-suc-le-suc, not-suc-le-zero, le-antisymm, eq-or-lt-of-le, zero-lt-suc, div-eq-of-lt, zero-div, div-div-eq-div-mul, mul-mod-left, pow-suc, pow-le-pow-right, lt-of-lt-of-le}
 use native.Mathlib.Numerals.{add-one}
 use native.Mathlib.Omega.{arith}
 use lib.Dec.{eqb}
 use lib.Pow.{pow-lt, pow-add}
+use borrow.Author.Tests.{eq-eqb, ne-eqb}
 use Rattle.common.specs.Places.{has, some}
 
 -- a word of 32 bits has no place past 31
@@ -21,6 +22,25 @@ only-past k l =
 
 pub only-small : (k : ℕ) → k < 32 → 2 ^ k % 2 ^ 32 ≡ 2 ^ k
 only-small k h = mod-eq-of-lt (pow-lt {j = 32} h)
+
+-- ---- a set that is halved at each place: what is left before place i are the places from i on
+
+module _ (w i rest : ℕ) (is : rest ≡ w / 2 ^ i) where
+  pub rest-next : rest / 2 ≡ w / 2 ^ (i + 1)
+  rest-next = ap (λ (n : ℕ). n / 2) is ∙ div-div-eq-div-mul w (2 ^ i) 2 ∙ ap (λ (n : ℕ). w / n) (sym (pow-suc 2 i)) ∙ ap (λ (n : ℕ). w / 2 ^ n) (sym (add-one i))
+
+  pub rest-has : rest % 2 ≡ 1 → has w i ≡ true
+  rest-has h = eq-eqb (w / 2 ^ i % 2) 1 (ap (λ (n : ℕ). n % 2) (sym is) ∙ h)
+
+  pub rest-misses : (rest % 2 ≡ 1 → ⊥) → has w i ≡ false
+  rest-misses h = ne-eqb (w / 2 ^ i % 2) 1 (λ e. h (ap (λ (n : ℕ). n % 2) is ∙ e))
+
+  -- where nothing is left, no place from i on is in the set
+  pub rest-none : rest ≡ 0 → (k : ℕ) → i ≤ k → has w k ≡ false
+  rest-none z k h =
+      let far : k ≡ i + (k - i) = omega arith in
+      ap (λ (n : ℕ). eqb (n % 2) 1)
+      (ap (λ (n : ℕ). w / 2 ^ n) far ∙ ap (λ (n : ℕ). w / n) (pow-add 2 i (k - i)) ∙ sym (div-div-eq-div-mul w (2 ^ i) (2 ^ (k - i))) ∙ ap (λ (n : ℕ). n / 2 ^ (k - i)) (sym is ∙ z) ∙ zero-div (2 ^ (k - i)))
 
 -- ---- a visit of the places: found at k, passed k, found none
 

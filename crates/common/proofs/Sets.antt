@@ -9,9 +9,8 @@ use lib.Dec.{eqb, eqb·zero-suc, eqb·suc-zero, eqb·suc-suc}
 use lib.Bits.{bitAnd, bitOr, and-step, or-step, and-shr, or-shr, and-le-l}
 use borrow.Author.Tests.{eqb-true, eqb-false, eq-eqb, ne-eqb}
 use Rattle.common.specs.Worlds.{bit, member, within}
-use Rattle.common.specs.Benches.{every}
+use Rattle.common.specs.Benches.{every, In}
 use Rattle.common.proofs.Tests.{clash, split}
-use Rattle.common.proofs.Benches.{In}
 use Rattle.common.proofs.Worlds.{within-get, within-make, bit-pow}
 use Rattle.common.specs.Places.{has, some}
 

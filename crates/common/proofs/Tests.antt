@@ -19,6 +19,10 @@ pub imply : (a b : Bool) → (a ≡ true → b ≡ true) → (not a || b) ≡ tr
 imply true b f = f refl
 imply false b f = refl
 
+pub not-implied : (a b : Bool) → (not a || b) ≡ false → (a ≡ true) × (b ≡ false)
+not-implied true b e = (refl, e)
+not-implied false b e = absurd (false≢true (sym e))
+
 -- what follows from 0 ≡ 1, which `cc` proves of any two equations that clash
 pub clash : {A : Type 0} → _≡_ {A = ℕ} 0 1 → A
 clash e = absurd (omega arith)

@@ -7,8 +7,9 @@ use native.Mathlib.Omega.{arith}
 use lib.Dec.{eqb}
 use borrow.Author.Tests.{eq-eqb, ne-eqb}
 use Rattle.common.specs.Worlds.{bit, member, everyIn, within, worldOf}
-use Rattle.common.proofs.Tests.{implies, imply, split}
-use Rattle.common.proofs.Benches.{In, every-get, every-make}
+use Rattle.common.proofs.Tests.{implies, imply, not-implied, split}
+use Rattle.common.proofs.Benches.{every-get, every-make, every-fails}
+use Rattle.common.specs.Benches.{In}
 
 -- ---- every member
 
@@ -19,6 +20,12 @@ everyIn-get n w p i e h m = implies (member i w) (p i) (every-get n (λ j. not (
 pub everyIn-make : (n w : ℕ) (p : ℕ → Bool) → ((i : ℕ) → In n i → member i w ≡ true → p i ≡ true) → everyIn n w p ≡ true
 unfolding everyIn
 everyIn-make n w p f = every-make n (λ i. not (member i w) || p i) (λ i h. imply (member i w) (p i) (f i h))
+
+-- where the test fails of some member, one of which it fails
+pub everyIn-fails : (n w : ℕ) (p : ℕ → Bool) → everyIn n w p ≡ false → (i : ℕ) × In n i × (member i w ≡ true) × (p i ≡ false)
+unfolding everyIn
+everyIn-fails n w p e =
+    let r = every-fails n (λ i. not (member i w) || p i) e in let z = not-implied (member (r .0) w) (p (r .0)) (r .2) in (r .0, r .1, z .0, z .1)
 
 -- each bench of the world u is one of the world w
 abbrev pub Sub : ℕ → ℕ → ℕ → Type 0

@@ -3,3 +3,5 @@ pub mod Worlds
 pub mod Places
 pub mod Updates
 pub mod Checks
+pub mod Lists
+pub mod Counts

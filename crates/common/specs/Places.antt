@@ -1,4 +1,5 @@
 -- Places of benches, as code counts them: bench b is at place b - 1. A set of benches is a number, in which place k is bit k.
+-- This file is to be believed.
 use mathlib.Core.Bool.{Bool, false, cond, _||_}
 use Prim.Native.Nat.{ℕ, zero, suc, _-_, _/_, _%_, _^_}
 use lib.Dec.{eqb}

@@ -8,10 +8,11 @@ use Rattle.published.specs.Rounds.{Run, Bench, Message, absent, found, r
 use Rattle.common.specs.Worlds.{member}
 use Rattle.common.specs.Updates.{put}
 use Rattle.common.proofs.Updates.{put-ind}
-use Rattle.common.proofs.Benches.{In}
+use Rattle.common.specs.Benches.{In}
 use Rattle.published.proofs.Messages.{find-append, find-found, Pre, pre-more}
 use Rattle.published.proofs.Moves.{Up}
-use Rattle.published.proofs.Invariant.{M, Mute, WfB, stays, mute, dead, Came, Base}
+use Rattle.published.proofs.Invariant.{Mute, WfB, stays, mute, dead, Came, Base}
+use Rattle.published.specs.Proposals.{M}
 
 -- bench b becomes x and sends `extra`
 pub record Change (s : Run) (b : ℕ) (x : Bench) (extra : List Message) : Type 0 where
@@ -38,7 +39,7 @@ pub record News (n : ℕ) (s : Run) (b : ℕ) (x : Bench) (r v w : ℕ) : Type 0
   pub new-came : (q : ℕ) → r ≡ suc (suc q) → Came n s b q v w
 
 -- a message after the change: an old one, or a new one of bench b
-data OldNew (s : Run) (b : ℕ) (q : List Message) (f r v w : ℕ) : Type 0 where
+pub data OldNew (s : Run) (b : ℕ) (q : List Message) (f r v w : ℕ) : Type 0 where
   old : M s f r v w → OldNew s b q f r v w
   new : f ≡ b → find r q ≡ found v w → OldNew s b q f r v w
 
@@ -62,10 +63,11 @@ module _ (s : Run) (b : ℕ) (x : Bench) (extra : List Message) (c : Change s b 
       (λ e. rw (c .sent-is) (pre-more (s b .sent) p extra (rw e at h)))
       (λ e. h)
 
-  failed-mono : (f : ℕ) → s f .state ≡ failed → put s b x f .state ≡ failed
+  -- who has failed stays so
+  pub failed-mono : (f : ℕ) → s f .state ≡ failed → put s b x f .state ≡ failed
   failed-mono f h = put-ind (λ y. y .state ≡ failed) s b x f (λ e. absurd (c .alive (rw e at h))) (λ e. h)
 
-  old-new : (f r v w : ℕ) → M (put s b x) f r v w → OldNew s b extra f r v w
+  pub old-new : (f r v w : ℕ) → M (put s b x) f r v w → OldNew s b extra f r v w
   old-new f r v w = put-ind (λ y. find r (y .sent) ≡ found v w → OldNew s b extra f r v w) s b x f
       (λ e h. find-append r (s b .sent) extra v w (rw (c .sent-is) at h) (λ z. old (rw e z)) (λ z. new e z))
       (λ e h. old h)

@@ -1,22 +1,24 @@
--- Decisions: each has a certificate, that all members of the world in which it was made say the same in that round or never will; later rounds
--- then say the same (A.11), and a running bench stands in every world, so it cannot decide otherwise. Every move keeps this. Assumes nothing.
+-- Decisions: whoever may still start or runs has made none. Each has a certificate, that all members of the world in which it was made say the same in
+-- that round or never will; later rounds then say the same (A.11), and a running bench stands in every world, so it cannot decide otherwise.
+-- Every move keeps this. Assumes nothing.
 use mathlib.Core.Path.{_≡_, refl, sym, _∙_}
 use Prim.Native.Nat.{ℕ, zero, suc, _≤_}
 use mathlib.Core.Bool.{true}
 use native.Mathlib.Omega.{arith}
 use lib.Dec.{eqb}
 use borrow.Author.Tests.{eqb-true, eqb-false}
-use Rattle.published.specs.Rounds.{Run, Bench, running, chosen, find, hasOut, got, see, agrees, decides, decidesOn, newRun, newBench, inState, inRound, sending, taking, noticing, choosing, entering, parting, deciding, advancing, Limit, Step}
+use Rattle.published.specs.Rounds.{Run, Bench, running, none, chosen, isFresh, isRunning, find, hasOut, got, see, agrees, decides, decidesOn, newRun, newBench, inState, inRound, sending, taking, noticing, choosing, entering, parting, deciding, advancing, Limit, Step}
 use Rattle.common.specs.Worlds.{member, within}
 use Rattle.common.specs.Updates.{put}
 use Rattle.common.proofs.Tests.{both, split, clash}
 use Rattle.common.proofs.Updates.{put-ind}
-use Rattle.common.proofs.Benches.{In}
+use Rattle.common.specs.Benches.{In}
 use Rattle.common.proofs.Worlds.{everyIn-get, Sub, within-get}
 use Rattle.published.proofs.Messages.{never}
 use Rattle.published.proofs.Views.{viewOf-ind}
-use Rattle.published.proofs.Moves.{running-live, Move, starts, abstains, leaves, leaves-silent, fails, takes, notices, concludes, advances}
-use Rattle.published.proofs.Invariant.{M, Mute, Base, running-bench, running-in}
+use Rattle.published.proofs.Moves.{live, fresh-live, running-live, Move, starts, abstains, leaves, leaves-silent, fails, takes, notices, concludes, advances}
+use Rattle.published.proofs.Invariant.{Mute, Base, running-bench, running-in}
+use Rattle.published.specs.Proposals.{M}
 use Rattle.published.proofs.Changes.{mono, mute-mono}
 use Rattle.published.proofs.NextRound.{got-found, got-mute}
 use Rattle.published.proofs.Effects.{Effect, effect, base-move, base-new}
@@ -37,6 +39,7 @@ pub record Inv (n : ℕ) (s : Run) : Type 0 where
   pub base : Base n s
   pub cert : (i d : ℕ) → s i .decision ≡ chosen d → Cert n s i d
   pub agree : (i j d e : ℕ) → s i .decision ≡ chosen d → s j .decision ≡ chosen e → d ≡ e
+  pub undecided : (b : ℕ) → live (s b .state) ≡ true → s b .decision ≡ none
 
 -- ---- after a decision, later rounds say the same
 
@@ -83,7 +86,7 @@ module _ (n : ℕ) (s : Run) (h : Base n s) where
       (λ u y e q. let p = both (eqb u (s b .value)) (within n y (s b .world)) q in
       said y (rw (eqb-true u (s b .value) (p .0)) at (got-found n s h b j (s b .round) u y e)) (within-get n y (s b .world) (p .1)))
       (λ e o q. never-will (got-mute n s h b j (s b .round) e o))
-      (λ g q. clash (cc)) (λ q. clash (cc))
+      (λ e o g q. clash (cc)) (λ e o g q. clash (cc))
       (everyIn-get n (s b .world) (λ i. agrees n (s b .value) (s b .world) (see b (s b) i)) j t hj m)
 
 -- ---- every move
@@ -101,24 +104,26 @@ module _ (n : ℕ) (lim : Limit) (s : Run) (h : Inv n s) where
   }
 
   -- nothing is decided
-  keeps : (b : ℕ) (x : Bench) → Effect n s b x → Base n (put s b x) → x .decision ≡ s b .decision → Inv n (put s b x)
-  keeps b x f base′ e = record {
+  keeps : (b : ℕ) (x : Bench) → Effect n s b x → Base n (put s b x) → x .decision ≡ s b .decision → (live (x .state) ≡ true → live (s b .state) ≡ true) → Inv n (put s b x)
+  keeps b x f base′ e k = record {
     base = base′;
     cert = λ i d q. cert-mono b x f i d (h .cert i d (same i ∙ q));
     agree = λ i j d f p q. h .agree i j d f (same i ∙ p) (same j ∙ q);
+    undecided = λ i. put-ind (λ y. live (y .state) ≡ true → y .decision ≡ none) s b x i (λ q l. e ∙ h .undecided b (k l)) (λ q. h .undecided i);
   }
     where
       same : (i : ℕ) → s i .decision ≡ put s b x i .decision
       same i = put-ind (λ y. s i .decision ≡ y .decision) s b x i (λ q. rw q (sym e)) (λ q. refl)
 
   decided-now : (b : ℕ) → Effect n s b (deciding (s b)) → Base n (put s b (deciding (s b))) → s b .state ≡ running → decides n b (s b) ≡ true → Inv n (put s b (deciding (s b)))
-  unfolding deciding parting sending inState choosing
+  unfolding deciding parting sending inState choosing live isFresh isRunning
   decided-now b f base′ k t = record {
     base = base′;
     cert = λ i d. put-ind (λ y. y .decision ≡ chosen d → Cert n (put s b (deciding (s b))) i d) s b (deciding (s b)) i
         (λ e q. let q′ : s b .value ≡ d = cc in rw (e, ← q′) (cert-mono b (deciding (s b)) f b (s b .value) now-cert))
         (λ e q. cert-mono b (deciding (s b)) f i d (h .cert i d q));
     agree = λ i j d e p q. this i d p ∙ sym (this j e q);
+    undecided = λ i. put-ind (λ y. live (y .state) ≡ true → y .decision ≡ none) s b (deciding (s b)) i (λ q l. clash (cc)) (λ q. h .undecided i);
   }
     where
       now-cert : Cert n s b (s b .value)
@@ -129,20 +134,20 @@ module _ (n : ℕ) (lim : Limit) (s : Run) (h : Inv n s) where
           (λ e q. cc) (λ e q. sym (cert-now n s (h .base) i d (h .cert i d q) b k))
 
   by-move : (a : Step) (b : ℕ) (x : Bench) → Move n lim s a b x → Effect n s b x → Base n (put s b x) → Inv n (put s b x)
-  unfolding entering parting advancing inState inRound sending taking noticing
-  by-move a d x (starts b v w hb k hv hw mb c₆ c₇) f g = keeps b _ f g refl
-  by-move a d x (abstains b hb k) f g = keeps b _ f g refl
-  by-move a d x (leaves b hb u o) f g = keeps b _ f g refl
-  by-move a d x (leaves-silent b hb u o) f g = keeps b _ f g refl
-  by-move a d x (fails b hb u) f g = keeps b _ f g refl
-  by-move a d x (takes b c m q hb hf ne l z e) f g = keeps b _ f g refl
-  by-move a d x (notices b c hb hf ne l e z) f g = keeps b _ f g refl
+  unfolding entering parting advancing inState inRound sending taking noticing live isFresh isRunning
+  by-move a d x (starts b v w hb k hv hw mb c₆ c₇) f g = keeps b _ f g refl (λ l. fresh-live k)
+  by-move a d x (abstains b hb k) f g = keeps b _ f g refl (λ l. cc)
+  by-move a d x (leaves b hb u o) f g = keeps b _ f g refl (λ l. cc)
+  by-move a d x (leaves-silent b hb u o) f g = keeps b _ f g refl (λ l. cc)
+  by-move a d x (fails b hb u) f g = keeps b _ f g refl (λ l. cc)
+  by-move a d x (takes b c m q hb hf ne l z e) f g = keeps b _ f g refl (λ q. q)
+  by-move a d x (notices b c hb hf ne l e z) f g = keeps b _ f g refl (λ q. q)
   by-move a d x (concludes b hb k e) f g = decided-now b f g k e
-  by-move a d x (advances b hb k e t y) f g = keeps b _ f g refl
+  by-move a d x (advances b hb k e t y) f g = keeps b _ f g refl (λ l. running-live k)
 
   pub inv-move : (a : Step) (b : ℕ) (x : Bench) → Move n lim s a b x → Inv n (put s b x)
   inv-move a b x m = by-move a b x m (effect n lim s (h .base) a b x m) (base-move n lim s (h .base) a b x m)
 
 pub inv-new : (n : ℕ) → Inv n newRun
 unfolding newRun newBench
-inv-new n = record { base = base-new n; cert = λ i d z. clash (cc); agree = λ i j d e p q. cc }
+inv-new n = record { base = base-new n; cert = λ i d z. clash (cc); agree = λ i j d e p q. cc; undecided = λ b l. refl }

@@ -4,15 +4,17 @@ use Prim.Native.Nat.{ℕ, zero}
 use mathlib.Core.Bool.{true, not, _||_}
 use mathlib.Core.List.{List, [], _∷_}
 use native.Mathlib.Omega.{arith}
-use Rattle.published.specs.Rounds.{Run, Bench, Message, Round, Out, absent, found, fresh, running, left, abstained, failed, find, hasOut, hasStarted, isGone, isFresh, isRunning, startedWith, hasAll, inAll, newRun, newBench, inState, sending, taking, noticing, entering, parting, advancing, Limit, Step}
+use Rattle.published.specs.Rounds.{Run, Bench, Message, Round, Out, absent, found, fresh, running, left, abstained, failed, find, hasOut, isFound, isGone, isFresh, isRunning, startedWith, hasAll, inAll, newRun, newBench, inState, sending, taking, noticing, entering, parting, advancing, Limit, Step}
 use Rattle.common.specs.Worlds.{member}
 use Rattle.common.specs.Updates.{put}
 use Rattle.common.proofs.Tests.{clash}
 use Rattle.common.proofs.Updates.{put-ind}
-use Rattle.common.proofs.Benches.{In, every-get}
+use Rattle.common.proofs.Benches.{every-get}
+use Rattle.common.specs.Benches.{In}
 use Rattle.published.proofs.Messages.{never, find-one, tidy-nil}
 use Rattle.published.proofs.Moves.{live, fresh-live, running-live, live-up, here-up, Move, starts, abstains, leaves, leaves-silent, fails, takes, notices, concludes, advances}
-use Rattle.published.proofs.Invariant.{M, Base, began, kept}
+use Rattle.published.proofs.Invariant.{Base, began, kept}
+use Rattle.published.specs.Proposals.{M}
 use Rattle.published.proofs.Changes.{Change, at-start, News, base-step}
 use Rattle.published.proofs.Sent.{change-stop, change-part, change-decide, change-take, change-notice, change-begin, change-advance}
 use Rattle.published.proofs.NextRound.{news-advance}
@@ -26,10 +28,10 @@ module _ (n : ℕ) (s : Run) (h : Base n s) (b v w : ℕ) (hb : In n b) (k : s b
   runs-start i u y m = let z = every-get n (λ i. startedWith b (find 1 (s i .sent))) i c₇ (h .range i 1 u y m) in cc
 
   running-there : (d : ℕ) → s d .state ≡ running → member d w ≡ true
-  unfolding hasStarted isGone hasAll
+  unfolding isFound isGone hasAll
   running-there d e =
       let o = began n s h d e in let o₂ = o .2 in
-      let z = every-get n (λ i. not (hasStarted (find 1 (s i .sent))) || isGone (s i .state) || member i w) d c₆ (h .range d 1 (o .0) (o .1) o₂) in cc
+      let z = every-get n (λ i. not (isFound (find 1 (s i .sent))) || isGone (s i .state) || member i w) d c₆ (h .range d 1 (o .0) (o .1) o₂) in cc
 
   -- nobody is past round 1: it would have awaited this bench
   none-second : {A : Type 0} (j v₂ w₂ : ℕ) → M s j 2 v₂ w₂ → A

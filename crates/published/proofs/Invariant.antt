@@ -9,16 +9,13 @@ use native.Mathlib.Omega.{arith}
 use lib.Dec.{eqb}
 use borrow.Author.Tests.{eqb-true, eqb-false}
 use Rattle.published.specs.Rounds.{Run, Bench, Message, absent, found, State, fresh, running, failed, find, hasOut}
+use Rattle.published.specs.Proposals.{M}
 use Rattle.common.specs.Worlds.{member}
 use Rattle.common.proofs.Tests.{split}
-use Rattle.common.proofs.Benches.{In}
+use Rattle.common.specs.Benches.{In}
 use Rattle.common.proofs.Worlds.{Sub}
 use Rattle.published.proofs.Messages.{tidy, Pre}
 use Rattle.published.proofs.Moves.{Up, live, running-live, live-up}
-
--- bench f has sent the round r message with value v and world w
-abbrev pub M : Run → ℕ → ℕ → ℕ → ℕ → Type 0
-M s f r v w = find r (s f .sent) ≡ found v w
 
 -- bench f has sent OUT and no round r message: it never will
 pub record Mute (s : Run) (r f : ℕ) : Type 0 where
@@ -91,11 +88,12 @@ pub record Base (n : ℕ) (s : Run) : Type 0 where
 -- ---- what follows at once
 
 module _ (n : ℕ) (s : Run) (h : Base n s) where
+  -- no message is of round 0
   pub positive : {A : Type 0} (i v w : ℕ) → M s i zero v w → A
   positive i v w m = absurd (omega (arith, h .wf i .upto zero v w m))
 
   -- a bench that has sent a round's message has sent those of all earlier rounds
-  earlier : (i r q v w : ℕ) → M s i r v w → 1 ≤ q → q ≤ r → (v′ : ℕ) × (w′ : ℕ) × (M s i q v′ w′)
+  pub earlier : (i r q v w : ℕ) → M s i r v w → 1 ≤ q → q ≤ r → (v′ : ℕ) × (w′ : ℕ) × (M s i q v′ w′)
   earlier i zero q v w m p le = positive i v w m
   earlier i (suc zero) q v w m p le = let e : q ≡ 1 = omega arith in (v, w, rw e m)
   earlier i (suc (suc r)) q v w m p le = split (eqb q (suc (suc r)))
@@ -105,6 +103,7 @@ module _ (n : ℕ) (s : Run) (h : Base n s) where
   first : (i r v w : ℕ) → M s i r v w → (v₁ : ℕ) × (w₁ : ℕ) × (M s i 1 v₁ w₁)
   first i r v w m = earlier i r 1 v w m (omega arith) (omega (arith, h .wf i .upto r v w m))
 
+  -- a running bench has started
   pub began : (b : ℕ) → s b .state ≡ running → (v₁ : ℕ) × (w₁ : ℕ) × (M s b 1 v₁ w₁)
   began b k = first b (s b .round) (s b .value) (s b .world) (h .wf b .now k)
 
@@ -120,6 +119,7 @@ module _ (n : ℕ) (s : Run) (h : Base n s) where
         | dead f ↦ absurd (live-up (s b .state) l f)
       ]
 
+  -- a running bench is one of the benches 1 to n
   pub running-bench : (b : ℕ) → s b .state ≡ running → In n b
   running-bench b k = h .range b (s b .round) (s b .value) (s b .world) (h .wf b .now k)
 

@@ -2,6 +2,10 @@ pub mod Messages
 pub mod Views
 pub mod Numbers
 pub mod Moves
+pub mod Answers
+pub mod Speaking
+pub mod Taking
+pub mod Staying
 pub mod Invariant
 pub mod Changes
 pub mod Sent
@@ -9,6 +13,7 @@ pub mod NextRound
 pub mod Effects
 pub mod Decisions
 pub mod Window
+pub mod Failures
 pub mod Reached
 pub mod Records
 pub mod Starts

@@ -1,8 +1,9 @@
 -- Laws of lists of messages: what is found in them, what stands behind OUT, what was taken of what was sent. Assumes nothing.
 use mathlib.Core.Path.{_≡_, refl, sym, ap, _∙_}
-use Prim.Native.Nat.{ℕ}
+use Prim.Native.Nat.{ℕ, zero, suc, _<_}
 use mathlib.Core.Bool.{Bool, true, false, _||_, true≢false, false≢true, or-true}
 use mathlib.Core.List.{List, [], _∷_, _++_, append-assoc, append-nil}
+use native.Mathlib.Omega.{arith}
 use lib.ListN.{length, drop}
 use lib.Dec.{eqb}
 use borrow.Author.Tests.{eqb-true}
@@ -100,6 +101,23 @@ all-taken l p q e t h = e ∙ ap (λ z. p ++ z) (tidy-rest p q (rw e at t) h) �
 pub drop-length : (p q : List Message) → drop (length p) (p ++ q) ≡ q
 drop-length [] q = refl
 drop-length (m ∷ p) q = drop-length p q
+
+-- more was sent than is left out exactly where a message is left
+pub drop-some : (k : ℕ) (l : List Message) → k < length l → (m : Message) × (q : List Message) × (drop k l ≡ m ∷ q)
+drop-some zero [] h = absurd (omega arith)
+drop-some zero (x ∷ l) h = (x, l, refl)
+drop-some (suc k) [] h = absurd (omega arith)
+drop-some (suc k) (x ∷ l) h = drop-some k l (omega arith)
+
+pub drop-short : (k : ℕ) (l : List Message) (m : Message) (q : List Message) → drop k l ≡ m ∷ q → k < length l
+drop-short zero [] m q e = clash (cc)
+drop-short zero (x ∷ l) m q e = omega arith
+drop-short (suc k) [] m q e = clash (cc)
+drop-short (suc k) (x ∷ l) m q e = omega (arith, drop-short k l m q e)
+
+pub length-last : (l : List Message) (m : Message) → length (l ++ (m ∷ [])) ≡ suc (length l)
+length-last [] m = refl
+length-last (x ∷ l) m = ap suc (length-last l m)
 
 -- the next message is taken
 pub pre-next : (l p : List Message) (m : Message) (q : List Message) → Pre p l → drop (length p) l ≡ m ∷ q → Pre (p ++ (m ∷ [])) l

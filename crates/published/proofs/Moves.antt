@@ -1,5 +1,5 @@
 -- A step's outcome: refused, by the first check that fails, and the run is as it was; or one of nine moves, each of which changes one bench.
--- A move carries what the checks have shown. Theorems about runs go by cases on it; `Locality` alone opens `step` again. Assumes nothing.
+-- A move carries what the checks have shown. Theorems about runs go by cases on it; `Locality` and `Answers` alone open `step` again. Assumes nothing.
 use mathlib.Core.Path.{_≡_, refl}
 use Prim.Native.Nat.{ℕ, zero, suc, _^_, _≤_, _<_}
 use mathlib.Core.Bool.{Bool, true, false, _||_, false≢true}
@@ -10,11 +10,12 @@ use borrow.Author.Tests.{eqb-false, leb-true, ltb-true, not-true}
 use Rattle.published.specs.Rounds.{Run, Bench, Message, State, fresh, running, decided, abstained, left, failed, hasOut, decides, settled, entering, parting, inState, taking, takingFirst, noticing, deciding, advancing, turned, leaving}
 use Rattle.common.specs.Updates.{put}
 use Rattle.common.specs.Worlds.{member}
-use Rattle.common.specs.Benches.{isBench}
+use Rattle.common.specs.Benches.{isBench, In}
 use Rattle.published.specs.Rounds.{isFresh, isRunning, isFailed, isGone, hasAll, inAll, waiting, some, Limit, allows, Step, start, abstain, leave, fail, turn, arrive, notice, checks, after, Answer, refuse, done, step}
-use Rattle.common.proofs.Tests.{both, clash, cond-ind}
-use Rattle.common.proofs.Benches.{In, bench-in}
-use Rattle.common.proofs.Checks.{Holds, nothing, also, Fails, judge-ind}
+use Rattle.common.proofs.Tests.{both, clash, split, cond-ind}
+use Rattle.common.proofs.Benches.{bench-in}
+use Rattle.common.proofs.Checks.{judge-ind}
+use Rattle.common.specs.Checks.{Holds, nothing, also, Fails}
 use Rattle.published.proofs.Numbers.{refusal-range}
 
 -- ---- states
@@ -43,7 +44,7 @@ pub here-up : (k : State) → isGone k ≡ false → Up k
 unfolding isGone
 here-up k e q = clash (cc)
 
-fresh-is : (k : State) → isFresh k ≡ true → k ≡ fresh
+pub fresh-is : (k : State) → isFresh k ≡ true → k ≡ fresh
 unfolding isFresh
 fresh-is fresh e = refl
 fresh-is running e = absurd (false≢true e)
@@ -52,7 +53,7 @@ fresh-is abstained e = absurd (false≢true e)
 fresh-is left e = absurd (false≢true e)
 fresh-is failed e = absurd (false≢true e)
 
-running-is : (k : State) → isRunning k ≡ true → k ≡ running
+pub running-is : (k : State) → isRunning k ≡ true → k ≡ running
 unfolding isRunning
 running-is fresh e = absurd (false≢true e)
 running-is running e = refl
@@ -61,7 +62,7 @@ running-is abstained e = absurd (false≢true e)
 running-is left e = absurd (false≢true e)
 running-is failed e = absurd (false≢true e)
 
-failed-is : (k : State) → isFailed k ≡ true → k ≡ failed
+pub failed-is : (k : State) → isFailed k ≡ true → k ≡ failed
 unfolding isFailed
 failed-is fresh e = absurd (false≢true e)
 failed-is running e = absurd (false≢true e)
@@ -69,6 +70,10 @@ failed-is decided e = absurd (false≢true e)
 failed-is abstained e = absurd (false≢true e)
 failed-is left e = absurd (false≢true e)
 failed-is failed e = refl
+
+-- not failed, as the test says it
+pub up-not-failed : (k : State) → Up k → isFailed k ≡ false
+up-not-failed k u = split (isFailed k) (λ e. absurd (u (failed-is k e))) (λ e. e)
 
 -- ---- moves
 

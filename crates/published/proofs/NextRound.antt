@@ -10,11 +10,12 @@ use borrow.Author.Tests.{eqb-true, eq-eqb}
 use Rattle.published.specs.Rounds.{Run, Message, Round, absent, found, heard, running, find, hasOut, viewOf, got, see, isAwaited, isHeard, decides, settled, settledOn, nextWorld, heardOn, nextValue, entering}
 use Rattle.common.specs.Worlds.{member}
 use Rattle.common.proofs.Tests.{both, clash, cond-ind}
-use Rattle.common.proofs.Benches.{In}
+use Rattle.common.specs.Benches.{In}
 use Rattle.common.proofs.Worlds.{everyIn-get, member-worldOf}
 use Rattle.published.proofs.Messages.{find-found, find-one, all-taken}
 use Rattle.published.proofs.Views.{viewOf-ind, see-heard, least-le, least-min, From, own, other, least-from}
-use Rattle.published.proofs.Invariant.{M, Mute, Stays, stays, mute, dead, Origin, Came, Base, running-in}
+use Rattle.published.proofs.Invariant.{Mute, Stays, stays, mute, dead, Origin, Came, Base, running-in}
+use Rattle.published.specs.Proposals.{M}
 use Rattle.published.proofs.Changes.{at-turn, News}
 
 module _ (n : ℕ) (s : Run) (h : Base n s) (b : ℕ) where
@@ -26,9 +27,11 @@ module _ (n : ℕ) (s : Run) (h : Base n s) (b : ℕ) where
       (λ e. ([], rw (eqb-true i b e) (sym (append-nil (s b .sent)))))
       (λ e. (drop (length (s b .taken i)) (s i .sent), h .lines b i))
 
+  -- a message that it has got was sent
   pub got-found : (i r v w : ℕ) → find r (got b (s b) i) ≡ found v w → M s i r v w
   got-found i r v w e = let p = got-pre i in rw (p .1) (find-found r (got b (s b) i) (p .0) v w e)
 
+  -- where OUT has come without a round's message, that message never will
   pub got-mute : (i r : ℕ) → find r (got b (s b) i) ≡ absent → hasOut (got b (s b) i) ≡ true → Mute s r i
   got-mute i r e o = let p = got-pre i in let a = all-taken (s i .sent) (got b (s b) i) (p .0) (p .1) (h .wf i .end) o in
       record { has-out = rw a o; not-sent = rw a e }
@@ -40,7 +43,7 @@ module _ (n : ℕ) (s : Run) (h : Base n s) (b : ℕ) where
     own-in = running-in n s h b b (s b .round) (s b .value) (s b .world) k (h .wf b .now k)
 
     -- a running bench hears itself
-    see-own : see b (s b) b ≡ heard (s b .value) (s b .world)
+    pub see-own : see b (s b) b ≡ heard (s b .value) (s b .world)
     unfolding see got viewOf
     see-own = let e = eq-eqb b b refl in let f = h .wf b .now k in cc
 
@@ -59,7 +62,7 @@ module _ (n : ℕ) (s : Run) (h : Base n s) (b : ℕ) where
     unfolding see isHeard
     next-heard d hd m = viewOf-ind (λ z. isHeard z ≡ true → (v : ℕ) × (y : ℕ) × (z ≡ heard v y))
         (find (s b .round) (got b (s b) d)) (hasOut (got b (s b) d)) (s b .noticed d)
-        (λ v w e q. (v, w, refl)) (λ e o q. clash (cc)) (λ g q. clash (cc)) (λ q. clash (cc))
+        (λ v w e q. (v, w, refl)) (λ e o q. clash (cc)) (λ e o g q. clash (cc)) (λ e o g q. clash (cc))
         (next-both d hd m .1)
 
     origin-next : (v : ℕ) → From (s b .value) (s b .world) (see b (s b)) n v → Origin n s (s b .round) v (nextWorld n b (s b))
@@ -95,7 +98,7 @@ module _ (n : ℕ) (s : Run) (h : Base n s) (b : ℕ) where
         };
         others = λ d hd m. viewOf-ind (λ z. not (isAwaited z) ≡ true → see b (s b) d ≡ z → Stays s (suc q) (nextWorld n b (s b)) d)
             (find (s b .round) (got b (s b) d)) (hasOut (got b (s b) d)) (s b .noticed d)
-            (λ u y e q z. stays (heard-next d u y hd m z)) (λ f o q z. mute (rw e at (got-mute d (s b .round) f o))) (λ g q z. dead (h .gone b d g)) (λ q z. clash (cc))
+            (λ u y e q z. stays (heard-next d u y hd m z)) (λ f o q z. mute (rw e at (got-mute d (s b .round) f o))) (λ f o g q z. dead (h .gone b d g)) (λ f o g q z. clash (cc))
             (everyIn-get n (s b .world) (λ i. not (isAwaited (see b (s b) i))) d t hd m) refl;
         origin = rw (← e) (origin-next (nextValue n b (s b)) (least-from (s b .value) (s b .world) (see b (s b)) n));
       }

@@ -2,22 +2,14 @@
 use mathlib.Core.Path.{_≡_, refl}
 use Prim.Native.Nat.{ℕ, _≤_}
 use mathlib.Core.Bool.{Bool, true, _&&_}
-use mathlib.Core.List.{List, [], _∷_}
 use lib.Dec.{leb}
 use borrow.Author.Tests.{leb-true}
 use Rattle.common.proofs.Tests.{both}
-use Rattle.common.proofs.Checks.{Fails, OneOf, numbers, fails-among, all, among}
+use Rattle.common.proofs.Checks.{numbers, fails-among, all, among}
+use Rattle.common.specs.Lists.{OneOf}
+use Rattle.common.specs.Checks.{Fails}
+use Rattle.published.specs.Refusals.{refusals}
 use Rattle.published.specs.Rounds.{Run, Step, start, abstain, leave, fail, turn, arrive, notice, Limit, checks}
-
--- document 01's order of checks: the numbers by which a step can be refused
-unfoldable pub refusals : Step → List ℕ
-refusals (start b v w) = 1 ∷ 3 ∷ 4 ∷ 5 ∷ 6 ∷ 7 ∷ []
-refusals (abstain b) = 1 ∷ 3 ∷ []
-refusals (leave b) = 1 ∷ 3 ∷ []
-refusals (fail b) = 1 ∷ 3 ∷ []
-refusals (turn b) = 1 ∷ 3 ∷ 11 ∷ 12 ∷ []
-refusals (arrive b f) = 1 ∷ 2 ∷ 3 ∷ 9 ∷ 8 ∷ []
-refusals (notice b f) = 1 ∷ 2 ∷ 3 ∷ 10 ∷ 9 ∷ []
 
 numbers-are : (n : ℕ) (lim : Limit) (s : Run) (a : Step) → numbers (checks n lim s a) ≡ refusals a
 unfolding numbers checks refusals

@@ -5,11 +5,12 @@ use Prim.Native.Nat.{ℕ, zero, suc, _≤_}
 use mathlib.Core.Bool.{true}
 use mathlib.Core.List.{List, [], _∷_}
 use native.Mathlib.Omega.{arith}
-use Rattle.published.specs.Rounds.{Run, running, chosen, Limit, Step, Answer, refuse, done, step, runFrom, newRun}
+use Rattle.published.specs.Rounds.{Run, running, none, chosen, Limit, Step, Answer, refuse, done, step, runFrom, newRun}
 use Rattle.common.specs.Worlds.{member}
-use Rattle.common.proofs.Benches.{In}
-use Rattle.published.proofs.Moves.{Outcome, refused, moved, step-outcome}
-use Rattle.published.proofs.Invariant.{M, Base, positive}
+use Rattle.common.specs.Benches.{In}
+use Rattle.published.proofs.Moves.{live, Outcome, refused, moved, step-outcome}
+use Rattle.published.proofs.Invariant.{Base, positive}
+use Rattle.published.specs.Proposals.{M, Proposed, NotAboveOwn}
 use Rattle.published.proofs.Decisions.{Inv, cert-now, inv-move, inv-new}
 use Rattle.published.proofs.Window as window
 
@@ -40,29 +41,16 @@ reached-run n lim l = reached-from n lim newRun (reached-new n) l
 
 -- ---- what follows
 
--- the value v is the proposal of some bench
-pub record Proposed (s : Run) (v : ℕ) : Type 0 where
-  pub by : ℕ
-  pub by-world : ℕ
-  pub by-message : M s by 1 v by-world
-
--- bench i has proposed a value not below d
-pub record Bounded (s : Run) (i d : ℕ) : Type 0 where
-  pub own-value : ℕ
-  pub own-world : ℕ
-  pub own-message : M s i 1 own-value own-world
-  pub not-above : d ≤ own-value
-
 proposed-message : (n : ℕ) (s : Run) → Base n s → (i r v w : ℕ) → M s i r v w → Proposed s v
 proposed-message n s h i zero v w m = positive n s h i v w m
 proposed-message n s h i (suc zero) v w m = record { by = i; by-world = w; by-message = m }
 proposed-message n s h i (suc (suc r)) v w m = let o = h .came i r v w m .origin in proposed-message n s h (o .from) (suc r) v (o .from-world) (o .from-msg)
 
-bounded-message : (n : ℕ) (s : Run) → Base n s → (i r v w : ℕ) → M s i r v w → Bounded s i v
-bounded-message n s h i zero v w m = positive n s h i v w m
-bounded-message n s h i (suc zero) v w m = record { own-value = v; own-world = w; own-message = m; not-above = omega arith }
-bounded-message n s h i (suc (suc r)) v w m =
-    let c = h .came i r v w m in let o = bounded-message n s h i (suc r) (c .value₀) (c .world₀) (c .before) in
+not-above-message : (n : ℕ) (s : Run) → Base n s → (i r v w : ℕ) → M s i r v w → NotAboveOwn s i v
+not-above-message n s h i zero v w m = positive n s h i v w m
+not-above-message n s h i (suc zero) v w m = record { own-value = v; own-world = w; own-message = m; not-above = omega arith }
+not-above-message n s h i (suc (suc r)) v w m =
+    let c = h .came i r v w m in let o = not-above-message n s h i (suc r) (c .value₀) (c .world₀) (c .before) in
     record { own-value = o .own-value; own-world = o .own-world; own-message = o .own-message; not-above = omega (arith, o .not-above, c .le) }
 
 module _ (n : ℕ) (s : Run) (h : Reached n s) where
@@ -75,13 +63,18 @@ module _ (n : ℕ) (s : Run) (h : Reached n s) where
   unfolding Reached
   decisions-agree i j d e p q = h .agree i j d e p q
 
+  -- a bench that may still start, or runs, has decided nothing
+  pub live-undecided : (b : ℕ) → live (s b .state) ≡ true → s b .decision ≡ none
+  unfolding Reached
+  live-undecided b l = h .undecided b l
+
   pub decision-proposed : (i d : ℕ) → s i .decision ≡ chosen d → Proposed s d
   unfolding Reached
   decision-proposed i d e = let c = h .cert i d e in proposed-message n s (h .base) i (c .r) d (c .w) (c .said-it)
 
-  pub decision-bounded : (i d : ℕ) → s i .decision ≡ chosen d → Bounded s i d
+  pub decision-not-above : (i d : ℕ) → s i .decision ≡ chosen d → NotAboveOwn s i d
   unfolding Reached
-  decision-bounded i d e = let c = h .cert i d e in bounded-message n s (h .base) i (c .r) d (c .w) (c .said-it)
+  decision-not-above i d e = let c = h .cert i d e in not-above-message n s (h .base) i (c .r) d (c .w) (c .said-it)
 
   -- A.12: nobody who can still turn is more than one round behind anybody who started
   pub one-ahead : (i b r v w : ℕ) → s b .state ≡ running → M s i r v w → r ≤ suc (s b .round)

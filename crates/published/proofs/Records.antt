@@ -3,17 +3,12 @@ use mathlib.Core.Path.{_≡_, refl, sym, ap, _∙_}
 use Prim.Native.Nat.{ℕ, suc, _≤_}
 use mathlib.Core.List.{[], _∷_, _++_}
 use native.Mathlib.Omega.{arith}
-use Rattle.published.specs.Rounds.{Run, Bench, Round, found, chosen, find, inState, inRound, sending, taking, noticing, choosing, entering, parting, deciding, advancing, nextValue, nextWorld, Limit, Step, start, Answer, refuse, done, step}
+use Rattle.published.specs.Rounds.{Run, Bench, Round, found, chosen, find, inState, inRound, sending, taking, noticing, choosing, entering, parting, deciding, advancing, nextValue, nextWorld, Limit, Step, Answer, refuse, done, step}
 use Rattle.common.proofs.Updates.{put-ind}
 use Rattle.published.proofs.Messages.{find-append, find-one, find-out}
 use Rattle.published.proofs.Moves.{Move, starts, abstains, leaves, leaves-silent, fails, takes, notices, concludes, advances, Outcome, refused, moved, step-outcome}
-use Rattle.published.proofs.Invariant.{M}
+use Rattle.published.specs.Proposals.{M, Proposal, earlier, now}
 use Rattle.published.proofs.Reached.{Reached, reached-base, decided-value}
-
--- where a proposal of bench i after a step comes from
-pub data Proposal (n : ℕ) (lim : Limit) (s : Run) (a : Step) (i v w : ℕ) : Type 0 where
-  earlier : M s i 1 v w → Proposal n lim s a i v w
-  now : a ≡ start i v w → step n lim s a .number ≡ 0 → Proposal n lim s a i v w
 
 module _ (n : ℕ) (lim : Limit) (s : Run) (h : Reached n s) where
   -- ---- decisions

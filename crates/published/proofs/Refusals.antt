@@ -1,14 +1,15 @@
 -- A refused step returns the run itself, so a list of steps with its refused ones left out leads to the same run. Assumes nothing.
 use mathlib.Core.Path.{_≡_, refl}
 use Prim.Native.Nat.{ℕ, suc}
-use mathlib.Core.Bool.{cond}
 use mathlib.Core.List.{List, [], _∷_, map}
 use lib.Dec.{eqb}
 use borrow.Author.Tests.{eqb-true, eqb-false}
 use Rattle.published.specs.Rounds.{Run, Limit, Step, Answer, refuse, done, step, runFrom, answers}
 use Rattle.common.proofs.Tests.{cond-ind}
-use Rattle.common.proofs.Checks.{OneOf, first, further}
-use Rattle.published.proofs.Numbers.{refusals, refusal-among}
+use Rattle.common.specs.Lists.{OneOf, first, further}
+use Rattle.published.proofs.Numbers.{refusal-among}
+use Rattle.published.specs.Refusals.{refusals}
+use Rattle.published.specs.Accepted.{accepted}
 use Rattle.published.proofs.Moves.{Outcome, refused, moved, step-outcome}
 
 module _ (n : ℕ) (lim : Limit) where
@@ -29,24 +30,19 @@ module _ (n : ℕ) (lim : Limit) where
   pub number-among : (s : Run) (a : Step) → OneOf (step n lim s a .number) (0 ∷ refusals a)
   number-among s a = number-outcome s a (step n lim s a) (step-outcome n lim s a)
 
-  -- the steps of a list that are done
-  unfoldable pub accepted : Run → List Step → List Step
-  accepted s [] = []
-  accepted s (a ∷ l) = cond (eqb (step n lim s a .number) 0) (a ∷ accepted (step n lim s a .run) l) (accepted (step n lim s a .run) l)
-
-  pub without-refused : (s : Run) (l : List Step) → runFrom n lim s (accepted s l) ≡ runFrom n lim s l
+  pub without-refused : (s : Run) (l : List Step) → runFrom n lim s (accepted n lim s l) ≡ runFrom n lim s l
   unfolding accepted runFrom
   without-refused s [] = refl
   without-refused s (a ∷ l) = cond-ind (λ k. runFrom n lim s k ≡ runFrom n lim (step n lim s a .run) l) (eqb (step n lim s a .number) 0)
-      (a ∷ accepted (step n lim s a .run) l) (accepted (step n lim s a .run) l)
+      (a ∷ accepted n lim (step n lim s a .run) l) (accepted n lim (step n lim s a .run) l)
       (λ e. without-refused (step n lim s a .run) l)
       (λ e. rw (refused-same s a (eqb-false (step n lim s a .number) 0 e)) (without-refused s l))
 
   -- and each of them is answered 0
-  pub accepted-done : (s : Run) (l : List Step) → answers n lim s (accepted s l) ≡ map (λ a. 0) (accepted s l)
+  pub accepted-done : (s : Run) (l : List Step) → answers n lim s (accepted n lim s l) ≡ map (λ a. 0) (accepted n lim s l)
   unfolding accepted answers
   accepted-done s [] = refl
   accepted-done s (a ∷ l) = cond-ind (λ k. answers n lim s k ≡ map (λ a. 0) k) (eqb (step n lim s a .number) 0)
-      (a ∷ accepted (step n lim s a .run) l) (accepted (step n lim s a .run) l)
+      (a ∷ accepted n lim (step n lim s a .run) l) (accepted n lim (step n lim s a .run) l)
       (λ e. let z = eqb-true (step n lim s a .number) 0 e in let ih = accepted-done (step n lim s a .run) l in cc)
       (λ e. rw (refused-same s a (eqb-false (step n lim s a .number) 0 e)) (accepted-done s l))

@@ -5,9 +5,9 @@ use mathlib.Core.List.{List, [], _∷_}
 use Rattle.published.specs.Rounds.{Run, absent, newRun, newBench, find, Limit, Step, start, step, runFrom}
 use Rattle.published.specs.Accepted.{Accepted, here, later}
 use Rattle.published.proofs.Messages.{never}
-use Rattle.published.proofs.Invariant.{M}
+use Rattle.published.specs.Proposals.{M, earlier, now}
 use Rattle.published.proofs.Reached.{Reached, reached-new, reached-step}
-use Rattle.published.proofs.Records.{earlier, now, proposal-from}
+use Rattle.published.proofs.Records.{proposal-from}
 
 -- it was there before the steps, or one of them gave it
 data Source (n : ℕ) (lim : Limit) (i v w : ℕ) (s : Run) (l : List Step) : Type 0 where

@@ -7,25 +7,39 @@ use lib.Dec.{eqb, leb}
 use borrow.Author.Tests.{eqb-true, eqb-false, leb-true, leb-false}
 use Rattle.published.specs.Rounds.{Bench, Found, absent, found, View, heard, excused, missed, awaited, find, hasOut, viewOf, got, see, isAwaited, agrees, lesser, leastOn, decides, decidesOn, settled, settledOn}
 use Rattle.common.specs.Worlds.{member}
-use Rattle.common.proofs.Tests.{split}
-use Rattle.common.proofs.Benches.{In}
+use Rattle.common.proofs.Tests.{split, clash}
+use Rattle.common.specs.Benches.{In}
 use Rattle.common.proofs.Worlds.{everyIn-get, everyIn-make}
 
 -- ---- heard, excused, missed, awaited
 
 pub viewOf-ind : (P : View → Type 0) (k : Found) (o g : Bool)
-    → ((v w : ℕ) → k ≡ found v w → P (heard v w)) → (k ≡ absent → o ≡ true → P excused) → (g ≡ true → P missed) → P awaited
-    → P (viewOf k o g)
+    → ((v w : ℕ) → k ≡ found v w → P (heard v w)) → (k ≡ absent → o ≡ true → P excused)
+    → (k ≡ absent → o ≡ false → g ≡ true → P missed) → (k ≡ absent → o ≡ false → g ≡ false → P awaited) → P (viewOf k o g)
 unfolding viewOf
 viewOf-ind P (found v w) o g h e m a = h v w refl
 viewOf-ind P absent true g h e m a = e refl refl
-viewOf-ind P absent false true h e m a = m refl
-viewOf-ind P absent false false h e m a = a
+viewOf-ind P absent false true h e m a = m refl refl refl
+viewOf-ind P absent false false h e m a = a refl refl refl
 
 pub see-heard : (b : ℕ) (x : Bench) (i v w : ℕ) → see b x i ≡ heard v w → find (x .round) (got b x i) ≡ found v w
 unfolding see
 see-heard b x i v w = viewOf-ind (λ z. z ≡ heard v w → find (x .round) (got b x i) ≡ found v w) (find (x .round) (got b x i)) (hasOut (got b x i)) (x .noticed i)
-    (λ u y e h. cc) (λ e o h. cc) (λ g h. cc) (λ h. cc)
+    (λ u y e h. cc) (λ e o h. cc) (λ e o g h. cc) (λ e o g h. cc)
+
+-- an awaited bench: nothing of this round has come, no OUT, and no failure is noticed
+pub see-awaited : (b : ℕ) (x : Bench) (i : ℕ) → see b x i ≡ awaited → (find (x .round) (got b x i) ≡ absent) × (hasOut (got b x i) ≡ false) × (x .noticed i ≡ false)
+unfolding see
+see-awaited b x i = viewOf-ind (λ z. z ≡ awaited → (find (x .round) (got b x i) ≡ absent) × (hasOut (got b x i) ≡ false) × (x .noticed i ≡ false))
+    (find (x .round) (got b x i)) (hasOut (got b x i)) (x .noticed i)
+    (λ u y e h. clash (cc)) (λ e o h. clash (cc)) (λ e o g h. clash (cc)) (λ e o g h. (e, o, g))
+
+pub is-awaited : (z : View) → isAwaited z ≡ true → z ≡ awaited
+unfolding isAwaited
+is-awaited (heard v w) e = clash (cc)
+is-awaited excused e = clash (cc)
+is-awaited missed e = clash (cc)
+is-awaited awaited e = refl
 
 -- whoever agrees is not awaited, so a bench that decides awaits nobody
 agrees-settles : (n v w : ℕ) (z : View) → agrees n v w z ≡ true → not (isAwaited z) ≡ true

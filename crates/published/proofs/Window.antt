@@ -3,7 +3,8 @@ use mathlib.Core.Path.{_≡_}
 use Prim.Native.Nat.{ℕ, zero, suc, _≤_}
 use native.Mathlib.Omega.{arith}
 use Rattle.published.specs.Rounds.{Run, running}
-use Rattle.published.proofs.Invariant.{M, Base, running-bench, running-in}
+use Rattle.published.proofs.Invariant.{Base, running-bench, running-in}
+use Rattle.published.specs.Proposals.{M}
 
 pub one-ahead : (n : ℕ) (s : Run) → Base n s → (i b r v w : ℕ) → s b .state ≡ running → M s i r v w → r ≤ suc (s b .round)
 one-ahead n s h i b zero v w k m = omega arith

@@ -1,10 +1,18 @@
--- A step that was done in a list of steps. This file is to be believed: theorems say by it which start gave a value.
+-- Steps that were done in a list of steps, answered 0. This file is to be believed: theorems say by it which start gave a value, and what a list comes to
+-- without its refused steps.
 use mathlib.Core.Path.{_≡_}
-use mathlib.Core.List.{List, _∷_}
+use mathlib.Core.Bool.{cond}
+use mathlib.Core.List.{List, [], _∷_}
 use Prim.Native.Nat.{ℕ}
+use lib.Dec.{eqb}
 use Rattle.published.specs.Rounds.{Run, Limit, Step, step}
 
 -- the step a stands in the list l of steps from the run s, and is answered 0 there
 pub data Accepted (n : ℕ) (lim : Limit) (a : Step) : Run → List Step → Type 0 where
   here : (s : Run) (l : List Step) → step n lim s a .number ≡ 0 → Accepted n lim a s (a ∷ l)
   later : (s : Run) (c : Step) (l : List Step) → Accepted n lim a (step n lim s c .run) l → Accepted n lim a s (c ∷ l)
+
+-- the steps of a list that are done
+unfoldable pub accepted : ℕ → Limit → Run → List Step → List Step
+accepted n lim s [] = []
+accepted n lim s (a ∷ l) = cond (eqb (step n lim s a .number) 0) (a ∷ accepted n lim (step n lim s a .run) l) (accepted n lim (step n lim s a .run) l)

@@ -1,2 +1,6 @@
 pub mod Rounds
+pub mod Proposals
 pub mod Accepted
+pub mod Refusals
+pub mod History
+pub mod Failures

@@ -209,10 +209,10 @@ isGone abstained = false
 isGone left = true
 isGone failed = true
 
--- a bench has started if it has sent its round 1 message
-unfoldable pub hasStarted : Found → Bool
-hasStarted absent = false
-hasStarted (found v w) = true
+-- the message is there; a bench has started if its round 1 message is
+unfoldable pub isFound : Found → Bool
+isFound absent = false
+isFound (found v w) = true
 
 -- the world that it started with, if it ever started, has bench b
 unfoldable pub startedWith : ℕ → Found → Bool
@@ -221,7 +221,7 @@ startedWith b (found v w) = member b w
 
 -- w has each bench that has started and has neither left nor failed
 unfoldable pub hasAll : ℕ → Run → ℕ → Bool
-hasAll n s w = every n (λ i. not (hasStarted (find 1 (s i .sent))) || isGone (s i .state) || member i w)
+hasAll n s w = every n (λ i. not (isFound (find 1 (s i .sent))) || isGone (s i .state) || member i w)
 
 -- the world of each bench that ever started has bench b
 unfoldable pub inAll : ℕ → Run → ℕ → Bool
