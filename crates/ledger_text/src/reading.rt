@@ -1,166 +1,125 @@
-// A line of a script read, its byte 10 left out. Keys are fixed byte strings; numbers are those of run text, and a tag is any u32.
+// A line of a script read, in one pass: what stands at its front says which step it is, and what must follow. Only a line that is no step
+// is looked at twice, the second time for its end.
 ghost use mathlib.Core.Path.{_≡_};
-ghost use Prim.Native.Nat.{_≤_, _<_};
+ghost use Prim.Native.Nat.{_<_};
 ghost use lib.ListN.{length};
-ghost use Rattle.spelling.specs.Fields.{digitAt, below};
-ghost use Rattle.spelling.specs.LedgerReading.{moreTag, tagAt, tagFieldAt, joinAt, sweepAt, closeAt, endAt, handAt, stepAt, ledgerSaidOf};
+ghost use Rattle.spelling.specs.declared.LedgerSaid.the-variants.{Malformed};
+ghost use Rattle.spelling.specs.declared.LedgerRead.the-variants.{Next};
+ghost use Rattle.spelling.specs.Numbers.{ascii};
+ghost use Rattle.spelling.specs.Fields.{fieldAt, nextAt};
+ghost use Rattle.spelling.specs.LedgerReading.{ledgerVerbAt, slotAt, sweepAt, ledgerRestAt, ledgerStepAt};
+use crate::tags;
 use kinds::BenchNo;
 use kinds::SlotNo;
 use spelling::Found;
 use spelling::LedgerFound;
+use spelling::LedgerRead;
 use spelling::LedgerSaid;
 use spelling::LedgerStep;
+use spelling::LedgerVerb;
+use spelling::LedgerVerbFound;
 use text::bytes;
 use text::numbers;
 
-// The value of the digit at a place, or 10.
-fn digit_at(line: &[u8], at: usize) -> u64
-    ensures { λ r. ⌜ r ≡ digitAt (now (line .entry)) at ⌝ }
+// The step's name at a place: first those that a script has most of.
+fn verb_at(text: &[u8], at: usize) -> LedgerVerbFound
+    ensures { λ r. ⌜ r ≡ ledgerVerbAt (now (text .entry)) at ⌝ }
 {
-    let c = bytes::byte_at(line, at);
-    if c < 48 {
-        return 10;
+    if bytes::starts(text, at, b"sweep sender=") {
+        return LedgerVerbFound::Known(LedgerVerb::Sweep, at + 13);
     }
-    if 57 < c {
-        return 10;
+    if bytes::starts(text, at, b"close sender=") {
+        return LedgerVerbFound::Known(LedgerVerb::Close, at + 13);
     }
-    (c - 48) as u64
+    if bytes::starts(text, at, b"handout room=") {
+        return LedgerVerbFound::Known(LedgerVerb::HandOut, at + 13);
+    }
+    if bytes::starts(text, at, b"join sender=") {
+        return LedgerVerbFound::Known(LedgerVerb::Join, at + 12);
+    }
+    if bytes::starts(text, at, b"end sender=") {
+        return LedgerVerbFound::Known(LedgerVerb::End, at + 11);
+    }
+    LedgerVerbFound::Unknown
 }
 
-// A tag whose digits so far make `first`, and of which up to `more` further ones may follow.
-fn more_tag(line: &[u8], from: usize, first: u64, more: usize) -> Found
-    requires { ⌜ (from ≤ length (now line)) × (first < below 10 more) ⌝ }
-    ensures { λ r. ⌜ r ≡ moreTag more (now (line .entry)) from first ⌝ }
+// The slot at a place, with its key. The key is fixed here, so that the comparison compiles to fixed bytes.
+fn slot_at(text: &[u8], at: usize) -> Found
+    ensures { λ r. ⌜ r ≡ fieldAt (ascii " slot=") (now (text .entry)) at ⌝ }
 {
-    let mut at = from;
-    let mut v = first;
-    let mut left = more;
-    loop {
-        let d = digit_at(line, at);
-        if 10 <= d {
-            if 4294967295 < v {
-                return Found::Nothing;
-            }
-            return Found::Got(v as u32, at);
-        }
-        if left == 0 {
-            return Found::Nothing;
-        }
-        v = v * 10 + d;
-        at += 1;
-        left -= 1;
-    }
-}
-
-// The tag at a place: 1 to 10 digits, no leading zero, at most 4,294,967,295.
-fn tag_at(line: &[u8], at: usize) -> Found
-    ensures { λ r. ⌜ r ≡ tagAt (now (line .entry)) at ⌝ }
-{
-    let d = digit_at(line, at);
-    if 10 <= d {
+    if !bytes::starts(text, at, b" slot=") {
         return Found::Nothing;
     }
-    if d == 0 {
-        return more_tag(line, at + 1, d, 0);
-    }
-    more_tag(line, at + 1, d, 9)
+    numbers::number_at(text, at + 6)
 }
 
-// The tag at a place, with its key.
-fn tag_field_at(line: &[u8], at: usize) -> Found
-    ensures { λ r. ⌜ r ≡ tagFieldAt (now (line .entry)) at ⌝ }
+// What follows the sender of a join.
+fn join_at(text: &[u8], at: usize, sender: u32) -> LedgerFound
+    ensures { λ r. ⌜ r ≡ slotAt LedgerStep.Join (now (text .entry)) at sender ⌝ }
 {
-    if !bytes::starts(line, at, b" tag=") {
-        return Found::Nothing;
-    }
-    tag_at(line, at + 5)
-}
-
-fn join_at(line: &[u8], at: usize) -> LedgerFound
-    ensures { λ r. ⌜ r ≡ joinAt (now (line .entry)) at ⌝ }
-{
-    let Found::Got(sender, next) = numbers::field_at(line, at, b" sender=") else {
-        return LedgerFound::Unspelled;
-    };
-    let Found::Got(slot, end) = numbers::field_at(line, next, b" slot=") else {
+    let Found::Got(slot, end) = slot_at(text, at) else {
         return LedgerFound::Unspelled;
     };
     LedgerFound::Spelled(LedgerStep::Join(BenchNo(sender), SlotNo(slot)), end)
 }
 
-fn sweep_at(line: &[u8], at: usize) -> LedgerFound
-    ensures { λ r. ⌜ r ≡ sweepAt (now (line .entry)) at ⌝ }
+// What follows the sender of a sweep.
+fn sweep_at(text: &[u8], at: usize, sender: u32) -> LedgerFound
+    ensures { λ r. ⌜ r ≡ sweepAt (now (text .entry)) at sender ⌝ }
 {
-    let Found::Got(sender, next) = numbers::field_at(line, at, b" sender=") else {
-        return LedgerFound::Unspelled;
-    };
-    let Found::Got(tag, end) = tag_field_at(line, next) else {
+    let Found::Got(tag, end) = tags::tag_field_at(text, at) else {
         return LedgerFound::Unspelled;
     };
     LedgerFound::Spelled(LedgerStep::Sweep(BenchNo(sender), tag), end)
 }
 
-fn close_at(line: &[u8], at: usize) -> LedgerFound
-    ensures { λ r. ⌜ r ≡ closeAt (now (line .entry)) at ⌝ }
+// What follows the sender of an end.
+fn end_at(text: &[u8], at: usize, sender: u32) -> LedgerFound
+    ensures { λ r. ⌜ r ≡ slotAt LedgerStep.End (now (text .entry)) at sender ⌝ }
 {
-    let Found::Got(sender, end) = numbers::field_at(line, at, b" sender=") else {
-        return LedgerFound::Unspelled;
-    };
-    LedgerFound::Spelled(LedgerStep::Close(BenchNo(sender)), end)
-}
-
-fn end_at(line: &[u8], at: usize) -> LedgerFound
-    ensures { λ r. ⌜ r ≡ endAt (now (line .entry)) at ⌝ }
-{
-    let Found::Got(sender, next) = numbers::field_at(line, at, b" sender=") else {
-        return LedgerFound::Unspelled;
-    };
-    let Found::Got(slot, end) = numbers::field_at(line, next, b" slot=") else {
+    let Found::Got(slot, end) = slot_at(text, at) else {
         return LedgerFound::Unspelled;
     };
     LedgerFound::Spelled(LedgerStep::End(BenchNo(sender), SlotNo(slot)), end)
 }
 
-fn hand_at(line: &[u8], at: usize) -> LedgerFound
-    ensures { λ r. ⌜ r ≡ handAt (now (line .entry)) at ⌝ }
+// What follows the first number of a step.
+fn rest_at(text: &[u8], at: usize, verb: LedgerVerb, number: u32) -> LedgerFound
+    ensures { λ r. ⌜ r ≡ ledgerRestAt (now (text .entry)) at verb number ⌝ }
 {
-    let Found::Got(room, end) = numbers::field_at(line, at, b" room=") else {
+    match verb {
+        LedgerVerb::Join => join_at(text, at, number),
+        LedgerVerb::Sweep => sweep_at(text, at, number),
+        LedgerVerb::Close => LedgerFound::Spelled(LedgerStep::Close(BenchNo(number)), at),
+        LedgerVerb::End => end_at(text, at, number),
+        LedgerVerb::HandOut => LedgerFound::Spelled(LedgerStep::HandOut(number), at),
+    }
+}
+
+// The step that is spelled from a place on.
+pub(crate) fn step_at(text: &[u8], at: usize) -> LedgerFound
+    ensures { λ r. ⌜ r ≡ ledgerStepAt (now (text .entry)) at ⌝ }
+{
+    if !bytes::starts(text, at, b"step=") {
+        return LedgerFound::Unspelled;
+    }
+    let LedgerVerbFound::Known(verb, first) = verb_at(text, at + 5) else {
         return LedgerFound::Unspelled;
     };
-    LedgerFound::Spelled(LedgerStep::HandOut(room), end)
-}
-
-// The step that the line begins with, by its name.
-fn step_at(line: &[u8]) -> LedgerFound
-    ensures { λ r. ⌜ r ≡ stepAt (now (line .entry)) ⌝ }
-{
-    if bytes::starts(line, 0, b"step=join") {
-        return join_at(line, 9);
-    }
-    if bytes::starts(line, 0, b"step=sweep") {
-        return sweep_at(line, 10);
-    }
-    if bytes::starts(line, 0, b"step=close") {
-        return close_at(line, 10);
-    }
-    if bytes::starts(line, 0, b"step=end") {
-        return end_at(line, 8);
-    }
-    if bytes::starts(line, 0, b"step=handout") {
-        return hand_at(line, 12);
-    }
-    LedgerFound::Unspelled
-}
-
-// What a line says: a step that is spelled up to its end, or nothing.
-pub fn read_line(line: &[u8]) -> LedgerSaid
-    ensures { λ r. ⌜ r ≡ ledgerSaidOf (now (line .entry)) ⌝ }
-{
-    let LedgerFound::Spelled(step, end) = step_at(line) else {
-        return LedgerSaid::Malformed;
+    let Found::Got(number, next) = numbers::number_at(text, first) else {
+        return LedgerFound::Unspelled;
     };
-    if end != line.len() {
-        return LedgerSaid::Malformed;
+    rest_at(text, next, verb, number)
+}
+
+// A line that is no step is passed over.
+pub(crate) fn pass_over(text: &[u8], at: usize) -> LedgerRead
+    requires { ⌜ at < length (now text) ⌝ }
+    ensures { λ r. ⌜ r ≡ Next Malformed (nextAt (now (text .entry)) at) ⌝ }
+{
+    let end = bytes::line_end(text, at);
+    if end < text.len() {
+        return LedgerRead::Next(LedgerSaid::Malformed, end + 1);
     }
-    LedgerSaid::Does(step)
+    LedgerRead::Next(LedgerSaid::Malformed, end)
 }

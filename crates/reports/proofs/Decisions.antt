@@ -3,31 +3,39 @@
 use mathlib.Core.Path.{_≡_, refl}
 use Prim.Native.Nat.{ℕ, _≤_}
 use mathlib.Core.List.{List, _++_}
-use Rattle.published.specs.Rounds.{chosen, newRun, Step, start, upTo}
+use Rattle.published.specs.Rounds.{chosen, newRun, Step, start, Limit, upTo}
 use Rattle.published.proofs.Starts.{accepted-start}
 use Rattle.published.proofs.Theorems.{agreement, validity, not-above-own}
-use Rattle.spelling.specs.Reading.{readText}
+use Rattle.kinds.specs.declared.Size.{Size}
+use Rattle.kinds.specs.Sizes.{benchesOf, roundsOf}
+use Rattle.spelling.specs.Text.{readText}
 use Rattle.reports.specs.RunReport.{answersFrom, stepsOf, runAfter, answerLines, benchLines, totalsOf, runReportFor, runReportOf}
 use Rattle.published.specs.Accepted.{Accepted}
 
-module _ (text : List ℕ) where
+module _ (size : Size) (text : List ℕ) where
+  abbrev n : ℕ
+  n = benchesOf size
+
+  abbrev limit : Limit
+  limit = upTo (roundsOf size)
+
   abbrev steps : List Step
-  steps = stepsOf (readText 16 text)
+  steps = stepsOf (readText n text)
 
   -- The lines of the benches are those of the run of which the others speak.
-  pub report-prints : runReportOf text ≡ answerLines 1 (answersFrom newRun (readText 16 text)) ++ (benchLines 16 (runAfter text) ++ totalsOf (answersFrom newRun (readText 16 text)))
+  pub report-prints : runReportOf size text ≡ answerLines 1 (answersFrom size newRun (readText n text)) ++ (benchLines n (runAfter size text) ++ totalsOf (answersFrom size newRun (readText n text)))
   unfolding runReportOf runReportFor
   report-prints = refl
 
-  pub report-agrees : (i j d e : ℕ) → runAfter text i .decision ≡ chosen d → runAfter text j .decision ≡ chosen e → d ≡ e
-  report-agrees = agreement 16 (upTo 96) steps
+  pub report-agrees : (i j d e : ℕ) → runAfter size text i .decision ≡ chosen d → runAfter size text j .decision ≡ chosen e → d ≡ e
+  report-agrees = agreement n limit steps
 
-  pub report-valid : (i d : ℕ) → runAfter text i .decision ≡ chosen d → (b : ℕ) × (w : ℕ) × Accepted 16 (upTo 96) (start b d w) newRun steps
+  pub report-valid : (i d : ℕ) → runAfter size text i .decision ≡ chosen d → (b : ℕ) × (w : ℕ) × Accepted n limit (start b d w) newRun steps
   report-valid i d e =
-      let p = validity 16 (upTo 96) steps i d e in
-      (p .by, p .by-world, accepted-start 16 (upTo 96) (p .by) d (p .by-world) steps (p .by-message))
+      let p = validity n limit steps i d e in
+      (p .by, p .by-world, accepted-start n limit (p .by) d (p .by-world) steps (p .by-message))
 
-  pub report-bounded : (i d : ℕ) → runAfter text i .decision ≡ chosen d → (v : ℕ) × (w : ℕ) × Accepted 16 (upTo 96) (start i v w) newRun steps × (d ≤ v)
+  pub report-bounded : (i d : ℕ) → runAfter size text i .decision ≡ chosen d → (v : ℕ) × (w : ℕ) × Accepted n limit (start i v w) newRun steps × (d ≤ v)
   report-bounded i d e =
-      let p = not-above-own 16 (upTo 96) steps i d e in
-      (p .own-value, p .own-world, accepted-start 16 (upTo 96) i (p .own-value) (p .own-world) steps (p .own-message), p .not-above)
+      let p = not-above-own n limit steps i d e in
+      (p .own-value, p .own-world, accepted-start n limit i (p .own-value) (p .own-world) steps (p .own-message), p .not-above)

@@ -5,6 +5,8 @@ use mathlib.Core.Bool.{Bool, true, false}
 use mathlib.Core.List.{List, [], _∷_, _++_}
 use mathlib.Core.Path.{_≡_, refl}
 use lib.ListN.{length, length-append}
+use Rattle.kinds.specs.declared.Size.{Size}
+use Rattle.kinds.specs.Sizes.{benchesOf}
 use Rattle.spelling.specs.Numbers.{digits, leads}
 use Rattle.spelling.specs.Answers.{answerText, totals}
 use Rattle.spelling.proofs.Decimals.{digits-length, small-length}
@@ -68,15 +70,15 @@ cursor-short : (n h : ℕ) → length (cursorLine n h) ≤ 32
 unfolding cursorLine
 cursor-short n h = simp length-append (omega (arith, digits-length n, digits-length h))
 
-module _ (b : Book) (n r : ℕ) where
-  last-length : length (lastLines b n r) ≡ length (senderLines 16 (b .rows)) + (length (cursorLine (b .next) (length (b .held))) + length (totals n r))
+module _ (size : Size) (b : Book) (n r : ℕ) where
+  last-length : length (lastLines size b n r) ≡ length (senderLines (benchesOf size) (b .rows)) + (length (cursorLine (b .next) (length (b .held))) + length (totals n r))
   unfolding lastLines
   last-length =
       let c = cursorLine (b .next) (length (b .held)) in
-      omega (arith, length-append (senderLines 16 (b .rows)) (c ++ totals n r), length-append c (totals n r))
+      omega (arith, length-append (senderLines (benchesOf size) (b .rows)) (c ++ totals n r), length-append c (totals n r))
 
-  pub last-short : length (lastLines b n r) ≤ 1124
-  last-short = omega (arith, last-length, senders-short 16 (b .rows), cursor-short (b .next) (length (b .held)), totals-short n r)
+  pub last-short : length (lastLines size b n r) ≤ 68 + 66 * benchesOf size
+  last-short = omega (arith, last-length, senders-short (benchesOf size) (b .rows), cursor-short (b .next) (length (b .held)), totals-short n r)
 
-  pub last-some : 1 ≤ length (lastLines b n r)
+  pub last-some : 1 ≤ length (lastLines size b n r)
   last-some = omega (arith, last-length, totals-length n r)

@@ -1,4 +1,4 @@
--- How long a report can be: never 0 bytes, and at most 1,365,176. The longest has 65,536 empty lines: a line that is a step takes at least
+-- How long a report can be, whatever the size: never 0 bytes, and at most 1,365,176. The longest has 65,536 empty lines: a line that is a step takes at least
 -- 17 bytes of the text, so a bench's line costs more lines of answers than it is worth. Assumes nothing.
 use Prim.Native.Nat.{ℕ, zero, suc, _+_, _-_, _*_, _≤_, _<_}
 use native.Mathlib.Omega.{arith}
@@ -7,12 +7,15 @@ use mathlib.Core.List.{List, [], _∷_, map}
 use mathlib.Core.Logic.{⊎-elim}
 use mathlib.Core.Path.{_≡_, refl, ap, _∙_}
 use lib.ListN.{length, length-append, length-map}
-use Rattle.published.specs.Rounds.{Run, Bench, newRun, newBench, isFresh, upTo, Step, Answer, refuse, done, step, runFrom}
+use Rattle.published.specs.Rounds.{Run, Bench, newRun, newBench, isFresh, Limit, upTo, Step, Answer, refuse, done, step, runFrom}
 use Rattle.common.specs.Updates.{put}
 use Rattle.common.proofs.Tests.{split}
 use Rattle.common.proofs.Updates.{put-ind}
 use Rattle.published.proofs.Numbers.{refusal-range}
 use Rattle.published.proofs.Moves.{Outcome, refused, moved, step-outcome}
+use Rattle.kinds.specs.declared.Size.{Size}
+use Rattle.kinds.specs.Sizes.{benchesOf, roundsOf}
+use Rattle.kinds.proofs.Sizes.{benches-fit, places-fit}
 use Rattle.kinds.specs.declared.Step as kinds
 use Rattle.kinds.specs.declared.Step.the-variants.{Start, Abstain, Leave, Fail, Turn, Arrive, Notice}
 use Rattle.kinds.specs.Stand.{stepOf}
@@ -22,13 +25,14 @@ use Rattle.spelling.specs.Numbers.{digits}
 use Rattle.spelling.specs.Spelling.{stepText}
 use Rattle.spelling.specs.Storing.{lead, four, low}
 use Rattle.spelling.specs.Lines.{linesOf}
-use Rattle.spelling.specs.Reading.{saidOf, readText}
+use Rattle.spelling.specs.Reading.{saidOf}
+use Rattle.spelling.specs.Text.{readText}
 use Rattle.spelling.proofs.Places.{le-or-lt}
 use Rattle.spelling.proofs.LineBytes.{bytesIn, lines-few, lines-bytes}
 use Rattle.spelling.proofs.Decimals.{lead-none, lead-some, digits-low, digits-length, small-length}
 use Rattle.spelling.proofs.Theorems.{line-writes-back}
 use Rattle.reports.specs.RunReport.{answerTo, answersFrom, stepsOf, runAfter, answerLine, answerLines, lastRound, benchLine, benchLines, refusedIn, totalsOf, runReportFor, runReportOf}
-use Rattle.reports.specs.Reported.{numberFor}
+use Rattle.reports.specs.Reported.{longest, numberFor}
 use Rattle.reports.proofs.Settled.{room-enough}
 use Rattle.reports.proofs.RunLines.{line-length, spelled-short, totals-of-length, refused-few}
 
@@ -111,34 +115,37 @@ benches-length (suc n) s = simp length-append (omega (arith, benches-length n s,
 
 -- ---- a step is answered by a small number, and lets one bench more be not fresh
 
-module _ (s : Run) where
-  outcome-small : (a : Step) (r : Answer) → Outcome 16 (upTo 96) s a r → (r .number < 100) × (stood 16 (r .run) ≤ stood 16 s + 1)
+module _ (n : ℕ) (limit : Limit) where
+  outcome-small : (s : Run) (a : Step) (r : Answer) → Outcome n limit s a r → (r .number < 100) × (stood n (r .run) ≤ stood n s + 1)
   unfolding refuse done
-  outcome-small a r (refused k f) = (omega (arith, refusal-range 16 (upTo 96) s a (suc k) f), omega arith)
-  outcome-small a r (moved b x m) = (omega arith, stood-put 16 b s x)
+  outcome-small s a r (refused k f) = (omega (arith, refusal-range n limit s a (suc k) f), omega arith)
+  outcome-small s a r (moved b x m) = (omega arith, stood-put n b s x)
 
-  step-small : (a : Step) → (step 16 (upTo 96) s a .number < 100) × (stood 16 (step 16 (upTo 96) s a .run) ≤ stood 16 s + 1)
-  step-small a = outcome-small a (step 16 (upTo 96) s a) (step-outcome 16 (upTo 96) s a)
+  step-small : (s : Run) (a : Step) → (step n limit s a .number < 100) × (stood n (step n limit s a .run) ≤ stood n s + 1)
+  step-small s a = outcome-small s a (step n limit s a) (step-outcome n limit s a)
 
-  answer-below : (x : Said) → answerTo s x .number < 100
+  stood-after : (s : Run) (l : List Step) → stood n (runFrom n limit s l) ≤ stood n s + length l
+  unfolding runFrom
+  stood-after s [] = omega arith
+  stood-after s (a ∷ l) = omega (arith, stood-after (step n limit s a .run) l, step-small s a .1)
+
+module _ (size : Size) where
+  answer-below : (s : Run) (x : Said) → answerTo size s x .number < 100
   unfolding answerTo refuse
-  answer-below (Does a) = step-small (stepOf a) .0
-  answer-below Malformed = omega arith
+  answer-below s (Does a) = step-small (benchesOf size) (upTo (roundsOf size)) s (stepOf a) .0
+  answer-below s Malformed = omega arith
 
-answers-below : (s : Run) (l : List Said) → Below (answersFrom s l)
-unfolding answersFrom
-answers-below s [] = none
-answers-below s (x ∷ l) = also (answerTo s x .number) (answersFrom (answerTo s x .run) l) (answer-below s x) (answers-below (answerTo s x .run) l)
+  answers-below : (s : Run) (l : List Said) → Below (answersFrom size s l)
+  unfolding answersFrom
+  answers-below s [] = none
+  answers-below s (x ∷ l) =
+      let next = answerTo size s x .run in
+      also (answerTo size s x .number) (answersFrom size next l) (answer-below s x) (answers-below next l)
 
-answers-count : (s : Run) (l : List Said) → length (answersFrom s l) ≡ length l
-unfolding answersFrom
-answers-count s [] = refl
-answers-count s (x ∷ l) = ap suc (answers-count (answerTo s x .run) l)
-
-stood-after : (s : Run) (l : List Step) → stood 16 (runFrom 16 (upTo 96) s l) ≤ stood 16 s + length l
-unfolding runFrom
-stood-after s [] = omega arith
-stood-after s (a ∷ l) = omega (arith, stood-after (step 16 (upTo 96) s a .run) l, step-small s a .1)
+  answers-count : (s : Run) (l : List Said) → length (answersFrom size s l) ≡ length l
+  unfolding answersFrom
+  answers-count s [] = refl
+  answers-count s (x ∷ l) = ap suc (answers-count (answerTo size s x .run) l)
 
 -- ---- what lines take of the text
 
@@ -152,54 +159,61 @@ step-long (Turn b) = omega (arith, digits-length (b .0))
 step-long (Arrive b f) = simp length-append (omega (arith, digits-length (b .0)))
 step-long (Notice b f) = simp length-append (omega (arith, digits-length (b .0)))
 
-steps-take : (ls : List (List ℕ)) → length ls + 17 * length (stepsOf (map (saidOf 16) ls)) ≤ bytesIn ls
+-- where worlds name benches up to n
+steps-take : (n : ℕ) → n ≤ 32 → (ls : List (List ℕ)) → length ls + 17 * length (stepsOf (map (saidOf n) ls)) ≤ bytesIn ls
 unfolding stepsOf bytesIn
-steps-take [] = omega arith
-steps-take (l ∷ ls) = go (saidOf 16 l) refl (steps-take ls)
+steps-take n f [] = omega arith
+steps-take n f (l ∷ ls) = go (saidOf n l) refl (steps-take n f ls)
   where
-    go : (x : Said) → saidOf 16 l ≡ x → length ls + 17 * length (stepsOf (map (saidOf 16) ls)) ≤ bytesIn ls
-        → suc (length ls) + 17 * length (stepsOf (x ∷ map (saidOf 16) ls)) ≤ suc (length l) + bytesIn ls
-    go (Does a) e h = omega (arith, step-long a, ap length (line-writes-back 16 (omega arith) l a e .0))
+    go : (x : Said) → saidOf n l ≡ x → length ls + 17 * length (stepsOf (map (saidOf n) ls)) ≤ bytesIn ls
+        → suc (length ls) + 17 * length (stepsOf (x ∷ map (saidOf n) ls)) ≤ suc (length l) + bytesIn ls
+    go (Does a) e h = omega (arith, step-long a, ap length (line-writes-back n f l a e .0))
     go Malformed e h = omega arith
 
 -- ---- the report
 
 -- n lines, d of which are steps
-most : (n d : ℕ) → n ≤ 65536 → n + 17 * d ≤ 65537 → 16 * n + digitsUpto n + 67 * d ≤ 1365150
+most : (n d : ℕ) → n ≤ longest → n + 17 * d ≤ suc longest → 16 * n + digitsUpto n + 67 * d ≤ 1365150
 unfolding digitsUpto
 most n d h p = omega arith
 
-module _ (text : List ℕ) where
+module _ (size : Size) (text : List ℕ) where
+  abbrev benches : ℕ
+  benches = benchesOf size
+
+  abbrev steps : List Step
+  steps = stepsOf (readText benches text)
+
   abbrev answers : List ℕ
-  answers = answersFrom newRun (readText 16 text)
+  answers = answersFrom size newRun (readText benches text)
 
   abbrev final : Run
-  final = runAfter text
+  final = runAfter size text
 
-  parts-length : length (runReportOf text) ≡ length (answerLines 1 answers) + (length (benchLines 16 final) + length (totalsOf answers))
+  parts-length : length (runReportOf size text) ≡ length (answerLines 1 answers) + (length (benchLines benches final) + length (totalsOf answers))
   unfolding runReportOf runReportFor
   parts-length = simp length-append
 
-  pub run-some : 1 ≤ length (runReportOf text)
+  pub run-some : 1 ≤ length (runReportOf size text)
   run-some = omega (arith, parts-length, totals-of-length answers)
 
   lines-are : length answers ≡ length (linesOf text)
   unfolding readText
-  lines-are = answers-count newRun (readText 16 text) ∙ length-map (linesOf text) (saidOf 16)
+  lines-are = answers-count size newRun (readText benches text) ∙ length-map (linesOf text) (saidOf benches)
 
-  steps-are : length (linesOf text) + 17 * length (stepsOf (readText 16 text)) ≤ length text + 1
+  steps-are : length (linesOf text) + 17 * length steps ≤ length text + 1
   unfolding readText
-  steps-are = omega (arith, steps-take (linesOf text), lines-bytes text)
+  steps-are = omega (arith, steps-take benches (omega (arith, benches-fit size, places-fit)) (linesOf text), lines-bytes text)
 
-  pub run-short : length text ≤ 65536 → length (runReportOf text) ≤ 1365176
+  pub run-short : length text ≤ longest → length (runReportOf size text) ≤ 1365176
   run-short h =
       let n = length answers in
       let few : n ≤ length text = omega (arith, lines-are, lines-few text) in
-      let paid : n + 17 * length (stepsOf (readText 16 text)) ≤ length text + 1 = omega (arith, lines-are, steps-are) in
-      let a : length (answerLines 1 answers) ≤ 16 * n + digitsUpto n = omega (arith, from-first answers (answers-below newRun (readText 16 text)) (omega arith)) in
-      let b : length (benchLines 16 final) ≤ 67 * length (stepsOf (readText 16 text)) = omega (arith, benches-length 16 final, stood-after newRun (stepsOf (readText 16 text)), stood-new 16) in
+      let paid : n + 17 * length steps ≤ length text + 1 = omega (arith, lines-are, steps-are) in
+      let a : length (answerLines 1 answers) ≤ 16 * n + digitsUpto n = omega (arith, from-first answers (answers-below size newRun (readText benches text)) (omega arith)) in
+      let b : length (benchLines benches final) ≤ 67 * length steps = omega (arith, benches-length benches final, stood-after benches (upTo (roundsOf size)) newRun steps, stood-new benches) in
       let t : length (totalsOf answers) ≤ 26 = omega (arith, totals-of-length answers, small-length n (omega arith), small-length (refusedIn answers) (omega (arith, refused-few answers))) in
-      omega (arith, parts-length, most n (length (stepsOf (readText 16 text))) (omega arith) (omega arith))
+      omega (arith, parts-length, most n (length steps) (omega arith) (omega arith))
 
-  pub run-room : (room : List ℕ) → length text ≤ 65536 → 1365176 ≤ length room → numberFor text (runReportOf text) room ≡ 0
-  run-room room h g = room-enough text (runReportOf text) room h (omega (arith, run-short h))
+  pub run-room : (room : List ℕ) → length text ≤ longest → 1365176 ≤ length room → numberFor text (runReportOf size text) room ≡ 0
+  run-room room h g = room-enough text (runReportOf size text) room h (omega (arith, run-short h))

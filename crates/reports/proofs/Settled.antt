@@ -15,34 +15,34 @@ use Rattle.spelling.specs.Stored.{Stored}
 use Rattle.spelling.proofs.Puts.{front, past-sets}
 use Rattle.reports.specs.declared.Reported.{Reported}
 use Rattle.reports.specs.declared.Reported.the-variants.{Length, Refused}
-use Rattle.reports.specs.Reported.{numberOf, lengthOf, numberFor, lengthFor, roomAfter, Reports}
+use Rattle.reports.specs.Reported.{numberOf, lengthOf, longest, numberFor, lengthFor, roomAfter, Reports}
 
 module _ (text report room : List ℕ) where
   -- ---- by the checks
 
-  number-23 : 65536 < length text → numberFor text report room ≡ 23
+  number-23 : longest < length text → numberFor text report room ≡ 23
   unfolding numberFor judge
-  number-23 h = rw (lt-leb (length text) 65536 h) refl
+  number-23 h = rw (lt-leb (length text) longest h) refl
 
-  number-22 : length text ≤ 65536 → length room < length report → numberFor text report room ≡ 22
+  number-22 : length text ≤ longest → length room < length report → numberFor text report room ≡ 22
   unfolding numberFor judge
-  number-22 h g = rw (le-leb (length text) 65536 h, lt-leb (length report) (length room) g) refl
+  number-22 h g = rw (le-leb (length text) longest h, lt-leb (length report) (length room) g) refl
 
-  pub room-enough : length text ≤ 65536 → length report ≤ length room → numberFor text report room ≡ 0
+  pub room-enough : length text ≤ longest → length report ≤ length room → numberFor text report room ≡ 0
   unfolding numberFor judge
-  room-enough h g = rw (le-leb (length text) 65536 h, le-leb (length report) (length room) g) refl
+  room-enough h g = rw (le-leb (length text) longest h, le-leb (length report) (length room) g) refl
 
   -- 22 means that the room is short of the report
-  pub never-22 : (length text ≤ 65536 → length report ≤ length room) → numberFor text report room ≡ 22 → ⊥
+  pub never-22 : (length text ≤ longest → length report ≤ length room) → numberFor text report room ≡ 22 → ⊥
   unfolding numberFor judge
-  never-22 f e = split (leb (length text) 65536)
-      (λ h. absurd (let g = leb-true (length text) 65536 h in let z : 22 ≡ 0 = sym e ∙ room-enough g (f g) in omega arith))
+  never-22 f e = split (leb (length text) longest)
+      (λ h. absurd (let g = leb-true (length text) longest h in let z : 22 ≡ 0 = sym e ∙ room-enough g (f g) in omega arith))
       (λ h. absurd (let z : 23 ≡ 22 = sym (rw h refl) ∙ e in omega arith))
 
   -- 0: the room holds the report
   fits : numberFor text report room ≡ 0 → length report ≤ length room
   unfolding numberFor judge
-  fits e = split (leb (length text) 65536)
+  fits e = split (leb (length text) longest)
       (λ h. split (leb (length report) (length room))
       (λ g. leb-true (length report) (length room) g)
       (λ g. clash (let z : 22 ≡ 0 = sym (rw (h, g) refl) ∙ e in omega arith)))
@@ -76,13 +76,13 @@ module _ (text report room : List ℕ) where
       let n : numberFor text report room ≡ 0 → ⊥ = λ h. z (sym e ∙ h) in
       record { number = sym e; bytes = sym (refused-length n); held = sym (refused-room n) }
 
-  pub text-long : 65536 < length text → Reports text report room (Refused 23) room
+  pub text-long : longest < length text → Reports text report room (Refused 23) room
   text-long h = refused-reports 23 (number-23 h) (λ z. omega arith)
 
-  pub room-short : length text ≤ 65536 → length room < length report → Reports text report room (Refused 22) room
+  pub room-short : length text ≤ longest → length room < length report → Reports text report room (Refused 22) room
   room-short h g = refused-reports 22 (number-22 h g) (λ z. omega arith)
 
-  pub report-done : length text ≤ 65536 → length report ≤ length room → {after : List ℕ} {n : ℕ} → Stored room 0 report n after → Reports text report room (Length n) after
+  pub report-done : length text ≤ longest → length report ≤ length room → {after : List ℕ} {n : ℕ} → Stored room 0 report n after → Reports text report room (Length n) after
   unfolding numberOf lengthOf
   report-done h g s =
       let e = room-enough h g in

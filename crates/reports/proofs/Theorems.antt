@@ -6,12 +6,16 @@ use mathlib.Core.List.{List, _++_}
 use mathlib.Core.Path.{_≡_}
 use lib.ListN.{length, getD, take}
 use Rattle.published.specs.Rounds.{newRun, chosen, start, upTo}
-use Rattle.spelling.specs.Reading.{readText}
+use Rattle.kinds.specs.declared.Size.{Size}
+use Rattle.kinds.specs.declared.Size.the-variants.{Sixteen}
+use Rattle.kinds.specs.Sizes.{benchesOf, roundsOf}
+use Rattle.spelling.specs.Text.{readText}
 use Rattle.reports.specs.declared.Reported.{Reported}
 use Rattle.reports.specs.declared.Reported.the-variants.{Length}
-use Rattle.reports.specs.Reported.{numberOf, lengthOf, numberFor, lengthFor, Reports}
+use Rattle.reports.specs.Reported.{numberOf, lengthOf, longest, numberFor, lengthFor, Reports}
 use Rattle.reports.specs.RunReport.{answersFrom, stepsOf, runAfter, answerLines, benchLines, totalsOf, runReportOf}
 use Rattle.reports.specs.LedgerReport.{ledgerReportOf}
+use Rattle.reports.specs.Examples.{wholeInput, wholeOutput, endedInput, endedOutput, scriptInput, scriptOutput}
 use Rattle.published.specs.Accepted.{Accepted}
 use Rattle.reports.proofs.Settled as settled
 use Rattle.reports.proofs.RunLengths as run
@@ -52,56 +56,56 @@ zero-is-refused = settled.zero-is-refused
 -- ---- how long a report is
 
 -- No report of a run text is empty, and none of a ledger script.
-pub run-report-never-empty : (text : List ℕ) → 1 ≤ length (runReportOf text)
+pub run-report-never-empty : (size : Size) (text : List ℕ) → 1 ≤ length (runReportOf size text)
 run-report-never-empty = run.run-some
 
-pub ledger-report-never-empty : (text : List ℕ) → 1 ≤ length (ledgerReportOf text)
+pub ledger-report-never-empty : (size : Size) (text : List ℕ) → 1 ≤ length (ledgerReportOf size text)
 ledger-report-never-empty = ledger.ledger-some
 
--- No report of a run text is longer than 1,365,176 bytes.
-pub run-report-length-bound : (text : List ℕ) → length text ≤ 65536 → length (runReportOf text) ≤ 1365176
+-- No report of a run text is longer than 1,365,176 bytes, whatever the size: a bench is named by a line of the text.
+pub run-report-length-bound : (size : Size) (text : List ℕ) → length text ≤ longest → length (runReportOf size text) ≤ 1365176
 run-report-length-bound = run.run-short
 
 -- So with that much room every run text that is not too long gets its report.
-pub room-enough : (text room : List ℕ) → length text ≤ 65536 → 1365176 ≤ length room → numberFor text (runReportOf text) room ≡ 0
+pub room-enough : (size : Size) (text room : List ℕ) → length text ≤ longest → 1365176 ≤ length room → numberFor text (runReportOf size text) room ≡ 0
 room-enough = run.run-room
 
--- No report of a ledger script is longer than 1,377,401 bytes.
-pub ledger-report-length-bound : (text : List ℕ) → length text ≤ 65536 → length (ledgerReportOf text) ≤ 1377401
+-- No report of a ledger script for 16 senders is longer than 1,377,401 bytes.
+pub ledger-report-length-bound : (text : List ℕ) → length text ≤ longest → length (ledgerReportOf Sixteen text) ≤ 1377401
 ledger-report-length-bound = ledger.ledger-short
 
 -- So a room of that many bytes, which the ledger's report function asks for by its type, is never refused by 22.
-pub ledger-room-never-short : (text room : List ℕ) → 1377401 ≤ length room → numberFor text (ledgerReportOf text) room ≡ 22 → ⊥
+pub ledger-room-never-short : (text room : List ℕ) → 1377401 ≤ length room → numberFor text (ledgerReportOf Sixteen text) room ≡ 22 → ⊥
 ledger-room-never-short = ledger.ledger-room
 
 -- ---- examples, byte for byte
 
 -- Document 01's whole case: the report of its input is its output.
-pub whole-case : runReportOf case.input ≡ case.output
+pub whole-case : runReportOf Sixteen wholeInput ≡ wholeOutput
 whole-case = case.whole-case
 
 -- The same of a text with benches that decided, left and failed, and with malformed lines.
-pub ended-case : runReportOf case.ended-input ≡ case.ended-output
+pub ended-case : runReportOf Sixteen endedInput ≡ endedOutput
 ended-case = case.ended-case
 
 -- The report of a ledger script with P9 and P10 of document 01 in it.
-pub example : ledgerReportOf script.input ≡ script.output
+pub example : ledgerReportOf Sixteen scriptInput ≡ scriptOutput
 example = script.example
 
 -- ---- the decisions of a run text's report
 
 -- A report is the lines of the answers, then the lines of the benches of the run of which the next three speak, then the totals.
-pub report-prints : (text : List ℕ) → runReportOf text ≡ answerLines 1 (answersFrom newRun (readText 16 text)) ++ (benchLines 16 (runAfter text) ++ totalsOf (answersFrom newRun (readText 16 text)))
+pub report-prints : (size : Size) (text : List ℕ) → runReportOf size text ≡ answerLines 1 (answersFrom size newRun (readText (benchesOf size) text)) ++ (benchLines (benchesOf size) (runAfter size text) ++ totalsOf (answersFrom size newRun (readText (benchesOf size) text)))
 report-prints = decisions.report-prints
 
 -- In every report all decided values are equal.
-pub report-agrees : (text : List ℕ) (i j d e : ℕ) → runAfter text i .decision ≡ chosen d → runAfter text j .decision ≡ chosen e → d ≡ e
+pub report-agrees : (size : Size) (text : List ℕ) (i j d e : ℕ) → runAfter size text i .decision ≡ chosen d → runAfter size text j .decision ≡ chosen e → d ≡ e
 report-agrees = decisions.report-agrees
 
 -- Each is a value that some accepted start line of the text gave.
-pub report-valid : (text : List ℕ) (i d : ℕ) → runAfter text i .decision ≡ chosen d → (b : ℕ) × (w : ℕ) × Accepted 16 (upTo 96) (start b d w) newRun (stepsOf (readText 16 text))
+pub report-valid : (size : Size) (text : List ℕ) (i d : ℕ) → runAfter size text i .decision ≡ chosen d → (b : ℕ) × (w : ℕ) × Accepted (benchesOf size) (upTo (roundsOf size)) (start b d w) newRun (stepsOf (readText (benchesOf size) text))
 report-valid = decisions.report-valid
 
 -- And it is not above the value that the bench's own accepted start line gave.
-pub report-bounded : (text : List ℕ) (i d : ℕ) → runAfter text i .decision ≡ chosen d → (v : ℕ) × (w : ℕ) × Accepted 16 (upTo 96) (start i v w) newRun (stepsOf (readText 16 text)) × (d ≤ v)
+pub report-bounded : (size : Size) (text : List ℕ) (i d : ℕ) → runAfter size text i .decision ≡ chosen d → (v : ℕ) × (w : ℕ) × Accepted (benchesOf size) (upTo (roundsOf size)) (start i v w) newRun (stepsOf (readText (benchesOf size) text)) × (d ≤ v)
 report-bounded = decisions.report-bounded

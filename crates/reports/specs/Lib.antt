@@ -1,3 +1,4 @@
 pub mod Reported
 pub mod RunReport
 pub mod LedgerReport
+pub mod Examples

@@ -20,9 +20,13 @@ unfoldable pub lengthOf : Reported → ℕ
 lengthOf (Length n) = n
 lengthOf (Refused k) = 0
 
+-- the bytes of the longest text that is played: `LONGEST` in code
+abbrev pub longest : ℕ
+longest = 65536
+
 -- the checks, in their order
 unfoldable pub numberFor : List ℕ → List ℕ → List ℕ → ℕ
-numberFor text report room = judge (λ k. k) (needs 23 (leb (length text) 65536) ∷ needs 22 (leb (length report) (length room)) ∷ []) 0
+numberFor text report room = judge (λ k. k) (needs 23 (leb (length text) longest) ∷ needs 22 (leb (length report) (length room)) ∷ []) 0
 
 -- the report's length, or 0 of a refusal
 unfoldable pub lengthFor : List ℕ → List ℕ → List ℕ → ℕ

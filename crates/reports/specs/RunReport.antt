@@ -1,26 +1,28 @@
 -- The report of a run text, as document 01 says under 'Run text': how lines are answered, and what is printed of the answers and of the run.
--- This file is to be believed. The run is that of `published`, for 16 benches and 96 rounds.
+-- This file is to be believed. The run is that of `published`, for as many benches and rounds as its size says.
 use Prim.Native.Nat.{ℕ, zero, suc, _+_}
 use mathlib.Core.Bool.{cond}
 use mathlib.Core.List.{List, [], _∷_, _++_}
 use lib.ListN.{length}
 use Rattle.published.specs.Rounds.{Message, Round, Out, State, fresh, running, decided, abstained, left, failed, Decision, none, chosen, Bench, Run, newRun, isFresh, upTo, Step, Answer, refuse, step, runFrom}
+use Rattle.kinds.specs.declared.Size.{Size}
+use Rattle.kinds.specs.Sizes.{benchesOf, roundsOf}
 use Rattle.kinds.specs.Stand.{stepOf}
 use Rattle.spelling.specs.declared.Said.{Said}
 use Rattle.spelling.specs.declared.Said.the-variants.{Does, Malformed}
 use Rattle.spelling.specs.Numbers.{ascii, digits}
 use Rattle.spelling.specs.Answers.{answerText, totals, refusalOf}
-use Rattle.spelling.specs.Reading.{readText}
+use Rattle.spelling.specs.Text.{readText}
 
 -- ---- How lines are answered: a malformed one changes nothing, and reading goes on
 
-unfoldable pub answerTo : Run → Said → Answer
-answerTo s (Does a) = step 16 (upTo 96) s (stepOf a)
-answerTo s Malformed = refuse 20 s
+unfoldable pub answerTo : Size → Run → Said → Answer
+answerTo size s (Does a) = step (benchesOf size) (upTo (roundsOf size)) s (stepOf a)
+answerTo size s Malformed = refuse 20 s
 
-unfoldable pub answersFrom : Run → List Said → List ℕ
-answersFrom s [] = []
-answersFrom s (x ∷ l) = answerTo s x .number ∷ answersFrom (answerTo s x .run) l
+unfoldable pub answersFrom : Size → Run → List Said → List ℕ
+answersFrom size s [] = []
+answersFrom size s (x ∷ l) = answerTo size s x .number ∷ answersFrom size (answerTo size s x .run) l
 
 -- ---- The run after a text: that of the steps that its lines say
 
@@ -29,8 +31,8 @@ stepsOf [] = []
 stepsOf (Does a ∷ l) = stepOf a ∷ stepsOf l
 stepsOf (Malformed ∷ l) = stepsOf l
 
-abbrev pub runAfter : List ℕ → Run
-runAfter text = runFrom 16 (upTo 96) newRun (stepsOf (readText 16 text))
+abbrev pub runAfter : Size → List ℕ → Run
+runAfter size text = runFrom (benchesOf size) (upTo (roundsOf size)) newRun (stepsOf (readText (benchesOf size) text))
 
 -- ---- One line for each input line: its number from 1, the answer
 
@@ -82,8 +84,8 @@ totalsOf answers = totals (length answers) (refusedIn answers)
 
 -- ---- The report
 
-unfoldable pub runReportFor : List ℕ → Run → List ℕ
-runReportFor answers s = answerLines 1 answers ++ (benchLines 16 s ++ totalsOf answers)
+unfoldable pub runReportFor : Size → List ℕ → Run → List ℕ
+runReportFor size answers s = answerLines 1 answers ++ (benchLines (benchesOf size) s ++ totalsOf answers)
 
-unfoldable pub runReportOf : List ℕ → List ℕ
-runReportOf text = runReportFor (answersFrom newRun (readText 16 text)) (runAfter text)
+unfoldable pub runReportOf : Size → List ℕ → List ℕ
+runReportOf size text = runReportFor size (answersFrom size newRun (readText (benchesOf size) text)) (runAfter size text)

@@ -203,8 +203,18 @@ pub fn put_number(room: &mut [u8], at: usize, n: u32) -> usize
     store_number(room, at, n)
 }
 
-// Stores a key and a number behind it, in the same way.
+// Stores a key and a number behind it, in the same way. A number has at most 10 digits, so that it is measured in a short room alone.
 pub fn put_field(room: &mut [u8], at: usize, key: &[u8], n: u32) -> usize
+    ensures { λ r. ⌜ Stored (now (room .entry)) at (fitting (now (room .entry)) at (now (key .entry) ++ digits n)) r (now (room .exit)) ⌝ }
+{
+    if bytes::has_room(room, at, key.len() + 10) {
+        return store_field(room, at, key, n);
+    }
+    put_field_measured(room, at, key, n)
+}
+
+// The same, measured.
+fn put_field_measured(room: &mut [u8], at: usize, key: &[u8], n: u32) -> usize
     ensures { λ r. ⌜ Stored (now (room .entry)) at (fitting (now (room .entry)) at (now (key .entry) ++ digits n)) r (now (room .exit)) ⌝ }
 {
     if !bytes::has_room(room, at, key.len()) {

@@ -10,7 +10,7 @@ use lib.ListN.{length, take, drop, take-append-drop, length-append}
 use borrow.Author.Tests.{le-leb, lt-leb, leb-true}
 use Rattle.common.proofs.Tests.{both, split}
 use Rattle.spelling.proofs.Places.{le-or-lt}
-use Rattle.spelling.proofs.Stores.{room-front, room-after, stored-then}
+use Rattle.spelling.proofs.Stores.{room-front, room-after, room-yes, stored-then}
 use Rattle.spelling.specs.Numbers.{leads, digits}
 use Rattle.spelling.specs.Stored.{Stored}
 use Rattle.spelling.specs.Storing.{places, lead, four, high, low}
@@ -86,19 +86,24 @@ lead-same p n q m up down e =
     ⊎-elim (λ (h : p ≤ n). lead-some p n h ∙ ap (λ (d : ℕ). (48 + d) ∷ []) e ∙ sym (lead-some q m (up h)))
     (λ (h : n < p). lead-none p n h ∙ sym (lead-none q m (down h))) (le-or-lt p n)
 
-pub digits-snoc : (v x : ℕ) → 0 < v → v < 10000 → x < 10 → digits (v * 10 + x) ≡ digits v ++ ((48 + x) ∷ [])
-unfolding low four
+pub digits-snoc : (v x : ℕ) → 0 < v → v < 1000000000 → x < 10 → digits (v * 10 + x) ≡ digits v ++ ((48 + x) ∷ [])
+unfolding high low four
 digits-snoc v x pos top hx =
     let n = v * 10 + x in
+    let e9 : lead 1000000000 n ≡ lead 100000000 v = lead-same 1000000000 n 100000000 v (λ h. omega arith) (λ h. omega arith) (omega arith) in
+    let e8 : lead 100000000 n ≡ lead 10000000 v = lead-same 100000000 n 10000000 v (λ h. omega arith) (λ h. omega arith) (omega arith) in
+    let e7 : lead 10000000 n ≡ lead 1000000 v = lead-same 10000000 n 1000000 v (λ h. omega arith) (λ h. omega arith) (omega arith) in
+    let e6 : lead 1000000 n ≡ lead 100000 v = lead-same 1000000 n 100000 v (λ h. omega arith) (λ h. omega arith) (omega arith) in
+    let e5 : lead 100000 n ≡ lead 10000 v = lead-same 100000 n 10000 v (λ h. omega arith) (λ h. omega arith) (omega arith) in
     let e4 : lead 10000 n ≡ lead 1000 v = lead-same 10000 n 1000 v (λ h. omega arith) (λ h. omega arith) (omega arith) in
     let e3 : lead 1000 n ≡ lead 100 v = lead-same 1000 n 100 v (λ h. omega arith) (λ h. omega arith) (omega arith) in
     let e2 : lead 100 n ≡ lead 10 v = lead-same 100 n 10 v (λ h. omega arith) (λ h. omega arith) (omega arith) in
     let e1 : lead 10 n ≡ (48 + v % 10) ∷ [] = lead-some 10 n (omega arith) ∙ ap (λ (d : ℕ). (48 + d) ∷ []) (omega arith) in
     let e0 : n % 10 ≡ x = omega arith in
-    let z : lead 10000 v ≡ [] = lead-none 10000 v (omega arith) in
-    rw (digits-low n (omega arith), digits-low v (omega arith)) (simp (e4, e3, e2, e1, e0, z, append-assoc))
+    let z : lead 1000000000 v ≡ [] = lead-none 1000000000 v (omega arith) in
+    rw (high-low n, high-low v) (simp (e9, e8, e7, e6, e5, e4, e3, e2, e1, e0, z, append-assoc))
 
-pub digits-large : (n : ℕ) → 10 ≤ n → n < 100000 → digits n ≡ digits (n / 10) ++ ((48 + n % 10) ∷ [])
+pub digits-large : (n : ℕ) → 10 ≤ n → n < 10000000000 → digits n ≡ digits (n / 10) ++ ((48 + n % 10) ∷ [])
 digits-large n h t =
     let e : n / 10 * 10 + n % 10 ≡ n = omega arith in
     subst (λ (m : ℕ). digits m ≡ digits (n / 10) ++ ((48 + n % 10) ∷ [])) e (digits-snoc (n / 10) (n % 10) (omega arith) (omega arith) (omega arith))
@@ -106,7 +111,7 @@ digits-large n h t =
 -- stored: first n / 10, then the last digit
 module _ (n : ℕ) (h : 10 ≤ n) (t : n < 100000) where
   parts : digits n ≡ digits (n / 10) ++ digits (n % 10)
-  parts = digits-large n h t ∙ rw (digits-small (n % 10) (omega arith)) refl
+  parts = digits-large n h (omega arith) ∙ rw (digits-small (n % 10) (omega arith)) refl
 
   pub parts-front : (at : ℕ) {m : ℕ} → at + length (digits n) ≤ m → at + length (digits (n / 10)) ≤ m
   parts-front at r = room-front at (digits (n / 10)) (digits (n % 10)) (rw parts at r)
@@ -134,6 +139,10 @@ high-length n = simp length-append (omega (arith, lead-length 1000000000 n, lead
 
 pub digits-length : (n : ℕ) → (1 ≤ length (digits n)) × (length (digits n) ≤ 10)
 digits-length n = rw (high-low n) (omega (arith, length-append (high n) (low n), high-length n, low-length n))
+
+-- 10 bytes behind a key are enough for any number
+pub field-room : (key : List ℕ) (n at : ℕ) {m : ℕ} {r : Bool} → r ≡ leb (at + (length key + 10)) m → r ≡ true → at + length (key ++ digits n) ≤ m
+field-room key n at {m} e h = omega (arith, length-append key (digits n), digits-length n, room-yes {a = at + (length key + 10)} {b = m} e h)
 
 pub number-short : (n : ℕ) {k : ℕ} → k ≡ length (digits n) → k ≤ 10
 number-short n e = omega (arith, digits-length n)

@@ -9,12 +9,12 @@ use mathlib.Core.Logic.{⊎-elim}
 use mathlib.Core.Path.{_≡_, refl, sym, ap, _∙_, subst}
 use lib.Dec.{eqb, leb}
 use lib.ListN.{length, getD, List·getD-eq-default}
-use borrow.Author.Tests.{lt-ltb, le-ltb, le-leb, lt-leb, eq-eqb, ne-eqb, leb-true}
+use borrow.Author.Tests.{lt-ltb, le-ltb, le-leb, lt-leb, eq-eqb, ne-eqb, eqb-true, leb-true}
 use Rattle.common.proofs.Tests.{split}
 use Rattle.spelling.proofs.Places.{le-or-lt}
 use Rattle.spelling.specs.declared.Found.{Found}
 use Rattle.spelling.specs.declared.Found.the-variants.{Got, Nothing}
-use Rattle.spelling.specs.Fields.{digitAt, moreDigits, numberAt, below}
+use Rattle.spelling.specs.Fields.{digitAt, moreDigits, numberUpto, numberAt, below}
 
 -- ---- the digit at a place
 
@@ -80,49 +80,61 @@ below-most w r = split (leb r w)
     (λ e. rw e (pow-le-pow-right (zero-lt-suc 9) (omega arith)))
     (λ e. rw e (omega arith))
 
--- the reader stands at `at` with v, and up to `left` digits more may follow, after it stood at `from` with `first` and `room`
-pub record Counted (room : ℕ) (text : List ℕ) (from first at v left : ℕ) : Type 0 where
+-- of a number of up to `width` digits: the reader stands at `at` with v, and up to `left` digits more may follow, after it stood at `from` with
+-- `first` and `room`
+pub record Counted (width room : ℕ) (text : List ℕ) (from first at v left : ℕ) : Type 0 where
   pub inside : at ≤ length text
-  pub under : v < below 5 left
-  pub fits : v < 100000
+  pub under : v < below width left
+  pub fits : v < 10 ^ width
   pub rest : moreDigits room text from first ≡ moreDigits left text at v
 
-module _ (room : ℕ) (text : List ℕ) (from first : ℕ) where
-  pub counted-none : from ≤ length text → first < below 5 room → Counted room text from first from first room
-  counted-none h k = record { inside = h; under = k; fits = omega (arith, below-most 5 room); rest = refl }
+module _ (width room : ℕ) (text : List ℕ) (from first : ℕ) where
+  pub counted-none : from ≤ length text → first < below width room → Counted width room text from first from first room
+  counted-none h k = record { inside = h; under = k; fits = omega (arith, below-most width room); rest = refl }
 
-  module _ (at v left : ℕ) (p : Counted room text from first at v left) {d : ℕ} (e : d ≡ digitAt text at) where
+  module _ (at v left : ℕ) (p : Counted width room text from first at v left) {d : ℕ} (e : d ≡ digitAt text at) where
     pub counted-stop : 10 ≤ d → Got v at ≡ moreDigits room text from first
     counted-stop h = sym (p .rest ∙ more-stop left text at v e h)
 
     pub counted-over : d < 10 → left ≡ 0 → Nothing ≡ moreDigits room text from first
     counted-over h z = sym (p .rest ∙ ap (λ (r : ℕ). moreDigits r text at v) z ∙ more-none text at v e h)
 
-    pub counted-more : d < 10 → (left ≡ 0 → ⊥) → Counted room text from first (at + 1) (v * 10 + d) (left - 1)
+    pub counted-more : d < 10 → (left ≡ 0 → ⊥) → Counted width room text from first (at + 1) (v * 10 + d) (left - 1)
     counted-more h n =
-        let u = below-turn 5 left v d n (p .under) h in
-        record { inside = digit-within text at e h; under = u; fits = omega (arith, below-most 5 (left - 1)); rest = p .rest ∙ more-turn left text at v e h n }
+        let u = below-turn width left v d n (p .under) h in
+        record { inside = digit-within text at e h; under = u; fits = omega (arith, below-most width (left - 1)); rest = p .rest ∙ more-turn left text at v e h n }
 
--- ---- a number
+-- ---- a number of up to `suc more` digits
+
+module _ (more : ℕ) (text : List ℕ) (at : ℕ) {d : ℕ} (e : d ≡ digitAt text at) where
+  pub upto-none : 10 ≤ d → Nothing ≡ numberUpto more text at
+  upto-none h = simp (← e, le-ltb _ _ h)
+
+  pub upto-zero : d < 10 → d ≡ 0 → {r : Found} → r ≡ moreDigits 0 text (at + 1) d → r ≡ numberUpto more text at
+  upto-zero h z q = q ∙ simp (← e, lt-ltb _ _ h, eq-eqb _ _ z)
+
+  pub upto-more : d < 10 → (d ≡ 0 → ⊥) → {r : Found} → r ≡ moreDigits more text (at + 1) d → r ≡ numberUpto more text at
+  upto-more h z q = q ∙ simp (← e, lt-ltb _ _ h, ne-eqb _ _ z)
+
+-- what a first digit is below, by how many may follow
+pub first-none : (width d : ℕ) → d ≡ 0 → d < below width 0
+unfolding below
+first-none width d z = rw (le-leb 0 width (omega arith)) (omega (arith, pow-le-pow-right (zero-lt-suc 9) {i = 0} {j = width - 0} (omega arith)))
+
+pub first-more : (more d : ℕ) → d < 10 → d < below (suc more) more
+unfolding below
+first-more more d h = let one : suc more - more ≡ 1 = omega arith in rw (le-leb more (suc more) (omega arith), one) h
+
+-- ---- a number of up to 5, in one, by how many digits may follow
 
 module _ (text : List ℕ) (at : ℕ) {d : ℕ} (e : d ≡ digitAt text at) where
   pub number-none : 10 ≤ d → Nothing ≡ numberAt text at
   unfolding numberAt
-  number-none h = simp (← e, le-ltb _ _ h)
+  number-none h = upto-none 4 text at e h
 
-  pub number-zero : d < 10 → d ≡ 0 → {r : Found} → r ≡ moreDigits 0 text (at + 1) d → r ≡ numberAt text at
-  unfolding numberAt
-  number-zero h z q = q ∙ simp (← e, lt-ltb _ _ h, eq-eqb _ _ z)
-
-  pub number-more : d < 10 → (d ≡ 0 → ⊥) → {r : Found} → r ≡ moreDigits 4 text (at + 1) d → r ≡ numberAt text at
-  unfolding numberAt
-  number-more h z q = q ∙ simp (← e, lt-ltb _ _ h, ne-eqb _ _ z)
-
-  -- in one, by how many digits may follow
   module _ (h : d < 10) {n : ℕ} (q : n ≡ cond (eqb d 0) 0 4) where
     pub number-room : d < below 5 n
-    unfolding below
-    number-room = subst (λ (k : ℕ). d < below 5 k) (sym q) (split (eqb d 0) (λ z. rw z (omega arith)) (λ z. rw z (omega arith)))
+    number-room = subst (λ (k : ℕ). d < below 5 k) (sym q) (split (eqb d 0) (λ z. rw z (first-none 5 d (eqb-true d 0 z))) (λ z. rw z (first-more 4 d h)))
 
     pub number-some : {r : Found} → r ≡ moreDigits n text (at + 1) d → r ≡ numberAt text at
     unfolding numberAt

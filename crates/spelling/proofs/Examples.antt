@@ -1,89 +1,14 @@
--- Texts of document 01 and damaged ones, P8 among them, as one table: what the lines of each say. Assumes nothing.
-use Prim.Native.Nat.{ℕ}
-use Prim.Native.String.{String}
-use mathlib.Core.List.{List, [], _∷_, _++_, map}
+-- The table of texts in specs/Examples.antt holds: each reads to what it says there, by computation. Assumes nothing.
+use mathlib.Core.List.{map}
 use mathlib.Core.Path.{_≡_, refl}
-use Rattle.kinds.specs.declared.Step.the-variants.{Start, Abstain, Leave, Fail, Turn, Arrive, Notice}
-use Rattle.spelling.specs.declared.Said.{Said}
-use Rattle.spelling.specs.declared.Said.the-variants.{Does, Malformed}
-use Rattle.spelling.specs.Numbers.{ascii}
+use Rattle.kinds.specs.declared.Size.the-variants.{Sixteen}
+use Rattle.kinds.specs.Sizes.{benchesOf}
 use Rattle.spelling.specs.Lines.{linesOf}
 use Rattle.spelling.specs.Fields.{isPrefix, digitAt, moreDigits, numberAt, fieldAt}
-use Rattle.spelling.specs.Reading.{memberAt, membersAt, worldAt, keyOf, rareVerbAt, verbAt, startAt, fromAt, restAt, stepAt, saidOf, readText}
+use Rattle.spelling.specs.Reading.{memberAt, membersAt, worldAt, keyOf, rareVerbAt, verbAt, startAt, fromAt, restAt, stepAt, saidOf}
+use Rattle.spelling.specs.Text.{readText}
+use Rattle.spelling.specs.Examples.{table, textIn, saidIn}
 
--- lines, each ended by byte 10
-abbrev pub textOf : List String → List ℕ
-textOf [] = []
-textOf (s ∷ l) = ascii s ++ (10 ∷ textOf l)
-
--- a text and what its lines say
-pub data Row : Type 0 where
-  reads : List ℕ → List Said → Row
-
-abbrev starts : (b v w : ℕ) → Said
-starts b v w = Does (Start (record { 0 = b }) (record { 0 = v }) w)
-
-abbrev turns : ℕ → Said
-turns b = Does (Turn (record { 0 = b }))
-
-pub table : List Row
-table =
-    reads (ascii "step=start bench=1 value=9 world=1,2,3") (starts 1 9 0b111 ∷ [])
-    ∷ reads (ascii "step=abstain bench=3") (Does (Abstain (record { 0 = 3 })) ∷ [])
-    ∷ reads (ascii "step=leave bench=16") (Does (Leave (record { 0 = 16 })) ∷ [])
-    ∷ reads (ascii "step=fail bench=2") (Does (Fail (record { 0 = 2 })) ∷ [])
-    ∷ reads (ascii "step=turn bench=0") (turns 0 ∷ [])
-    ∷ reads (ascii "step=arrive bench=1 from=99999") (Does (Arrive (record { 0 = 1 }) (record { 0 = 99999 })) ∷ [])
-    ∷ reads (ascii "step=notice bench=2 from=3") (Does (Notice (record { 0 = 2 }) (record { 0 = 3 })) ∷ [])
-    -- P8
-    ∷ reads (ascii "step=start bench=1 value=65536 world=1") (starts 1 65536 1 ∷ [])
-    ∷ reads (ascii "step=start bench=1 value=65535 world=1") (starts 1 65535 1 ∷ [])
-    ∷ reads (ascii "step=turn bench=017") (Malformed ∷ [])
-    ∷ reads (ascii "step=turn bench=17") (turns 17 ∷ [])
-    -- numbers: 1 to 5 digits
-    ∷ reads (ascii "step=turn bench=100000") (Malformed ∷ [])
-    ∷ reads (ascii "step=turn bench=123456789012345678901234567890") (Malformed ∷ [])
-    ∷ reads (ascii "step=turn bench=") (Malformed ∷ [])
-    ∷ reads (ascii "step=turn bench=-1") (Malformed ∷ [])
-    ∷ reads (ascii "step=turn bench=00") (Malformed ∷ [])
-    -- worlds: bench numbers 1 to 16, strictly rising, joined by commas, at least one
-    ∷ reads (ascii "step=start bench=1 value=9 world=16") (starts 1 9 32768 ∷ [])
-    ∷ reads (ascii "step=start bench=10 value=0 world=1,2,3,4,5,6,7,8,9,10,11,12,13,14,15,16") (starts 10 0 65535 ∷ [])
-    ∷ reads (ascii "step=start bench=1 value=9 world=17") (Malformed ∷ [])
-    ∷ reads (ascii "step=start bench=1 value=9 world=0") (Malformed ∷ [])
-    ∷ reads (ascii "step=start bench=1 value=9 world=3,2") (Malformed ∷ [])
-    ∷ reads (ascii "step=start bench=1 value=9 world=1,1") (Malformed ∷ [])
-    ∷ reads (ascii "step=start bench=1 value=9 world=1,02") (Malformed ∷ [])
-    ∷ reads (ascii "step=start bench=1 value=9 world=1,") (Malformed ∷ [])
-    ∷ reads (ascii "step=start bench=1 value=9 world=,1") (Malformed ∷ [])
-    ∷ reads (ascii "step=start bench=1 value=9 world=1, 2") (Malformed ∷ [])
-    ∷ reads (ascii "step=start bench=1 value=9 world=") (Malformed ∷ [])
-    -- keys in this order, one space between, and nothing else
-    ∷ reads (ascii " step=turn bench=1") (Malformed ∷ [])
-    ∷ reads (ascii "step=turn bench=1 ") (Malformed ∷ [])
-    ∷ reads (ascii "step=turn  bench=1") (Malformed ∷ [])
-    ∷ reads (ascii "step=turn bench=1" ++ (13 ∷ [])) (Malformed ∷ [])
-    ∷ reads (ascii "step=turn bench=1" ++ (0 ∷ [])) (Malformed ∷ [])
-    ∷ reads (ascii "step=turn bench=1" ++ (200 ∷ [])) (Malformed ∷ [])
-    ∷ reads (ascii "Step=turn bench=1") (Malformed ∷ [])
-    ∷ reads (ascii "step=arrive from=2 bench=1") (Malformed ∷ [])
-    ∷ reads (ascii "step=arrive bench=1") (Malformed ∷ [])
-    ∷ reads (ascii "step=turn bench=1 from=2") (Malformed ∷ [])
-    ∷ reads (ascii "step=start bench=1 world=1 value=9") (Malformed ∷ [])
-    -- lines: no text, one empty line, two, a last line without byte 10
-    ∷ reads [] []
-    ∷ reads (ascii "\n") (Malformed ∷ [])
-    ∷ reads (ascii "step=turn bench=1\n\n") (turns 1 ∷ Malformed ∷ [])
-    ∷ reads (ascii "step=turn bench=1\nstep=turn\nstep=turn bench=2") (turns 1 ∷ Malformed ∷ turns 2 ∷ [])
-    ∷ reads (ascii "step=turn bench=1\nstep=turn bench=2\n") (turns 1 ∷ turns 2 ∷ [])
-    ∷ []
-
-pub textIn : Row → List ℕ
-textIn (reads text says) = text
-
-pub saidIn : Row → List Said
-saidIn (reads text says) = says
-
-pub examples : map (λ r. readText 16 (textIn r)) table ≡ map saidIn table
-unfolding table textIn saidIn isPrefix digitAt moreDigits numberAt fieldAt memberAt membersAt worldAt keyOf rareVerbAt verbAt startAt fromAt restAt stepAt saidOf linesOf readText
+pub examples : map (λ r. readText (benchesOf Sixteen) (textIn r)) table ≡ map saidIn table
+unfolding benchesOf table textIn saidIn isPrefix digitAt moreDigits numberAt fieldAt memberAt membersAt worldAt keyOf rareVerbAt verbAt startAt fromAt restAt stepAt saidOf linesOf readText
 examples = refl

@@ -1,58 +1,10 @@
--- Lines of ledger scripts and damaged ones, as one table: what each says. Assumes nothing.
-use Prim.Native.Nat.{ℕ}
-use Prim.Native.String.{String}
-use mathlib.Core.List.{List, [], _∷_, map}
+-- The table of lines in specs/LedgerExamples.antt holds: each reads to what it says there, by computation. Assumes nothing.
+use mathlib.Core.List.{map}
 use mathlib.Core.Path.{_≡_, refl}
-use Rattle.spelling.specs.declared.LedgerStep.the-variants.{Join, Sweep, Close, End, HandOut}
-use Rattle.spelling.specs.declared.LedgerSaid.{LedgerSaid}
-use Rattle.spelling.specs.declared.LedgerSaid.the-variants.{Does, Malformed}
-use Rattle.spelling.specs.Numbers.{ascii}
 use Rattle.spelling.specs.Fields.{isPrefix, digitAt, moreDigits, numberAt, fieldAt}
-use Rattle.spelling.specs.LedgerReading.{moreTag, tagAt, tagFieldAt, joinAt, sweepAt, closeAt, endAt, handAt, stepAt, ledgerSaidOf}
-
--- a line and what it says
-pub data Row : Type 0 where
-  reads : String → LedgerSaid → Row
-
-pub table : List Row
-table =
-    reads "step=join sender=1 slot=65534" (Does (Join (record { 0 = 1 }) (record { 0 = 65534 })))
-    ∷ reads "step=sweep sender=16 tag=0" (Does (Sweep (record { 0 = 16 }) 0))
-    ∷ reads "step=close sender=17" (Does (Close (record { 0 = 17 })))
-    ∷ reads "step=end sender=2 slot=0" (Does (End (record { 0 = 2 }) (record { 0 = 0 })))
-    ∷ reads "step=handout room=99999" (Does (HandOut 99999))
-    -- tags: 1 to 10 digits, no leading zero, at most 4,294,967,295
-    ∷ reads "step=sweep sender=1 tag=4294967295" (Does (Sweep (record { 0 = 1 }) 4294967295))
-    ∷ reads "step=sweep sender=1 tag=4294967296" Malformed
-    ∷ reads "step=sweep sender=1 tag=9999999999" Malformed
-    ∷ reads "step=sweep sender=1 tag=10000000000" Malformed
-    ∷ reads "step=sweep sender=1 tag=00" Malformed
-    ∷ reads "step=sweep sender=1 tag=" Malformed
-    -- other numbers are those of run text
-    ∷ reads "step=close sender=100000" Malformed
-    ∷ reads "step=close sender=01" Malformed
-    ∷ reads "step=handout room=100000" Malformed
-    -- names in full, and no more
-    ∷ reads "step=hand room=3" Malformed
-    ∷ reads "step=joi sender=1 slot=0" Malformed
-    ∷ reads "step=closed sender=1" Malformed
-    ∷ reads "step=turn sender=1" Malformed
-    -- keys in this order, one space between, and nothing else
-    ∷ reads "step=join slot=0 sender=1" Malformed
-    ∷ reads "step=join sender=1" Malformed
-    ∷ reads "step=close sender=1 slot=0" Malformed
-    ∷ reads "step=sweep sender=1  tag=5" Malformed
-    ∷ reads "step=close sender=1 " Malformed
-    ∷ reads " step=close sender=1" Malformed
-    ∷ reads "" Malformed
-    ∷ []
-
-pub lineIn : Row → List ℕ
-lineIn (reads line says) = ascii line
-
-pub saidIn : Row → LedgerSaid
-saidIn (reads line says) = says
+use Rattle.spelling.specs.LedgerReading.{tagAt, tagFieldAt, ledgerKeyOf, ledgerVerbAt, slotAt, sweepAt, ledgerRestAt, ledgerStepAt, ledgerSaidOf}
+use Rattle.spelling.specs.LedgerExamples.{table, lineIn, saidIn}
 
 pub examples : map (λ r. ledgerSaidOf (lineIn r)) table ≡ map saidIn table
-unfolding table lineIn saidIn isPrefix digitAt moreDigits numberAt fieldAt moreTag tagAt tagFieldAt joinAt sweepAt closeAt endAt handAt stepAt ledgerSaidOf
+unfolding table lineIn saidIn isPrefix digitAt moreDigits numberAt fieldAt tagAt tagFieldAt ledgerKeyOf ledgerVerbAt slotAt sweepAt ledgerRestAt ledgerStepAt ledgerSaidOf
 examples = refl

@@ -6,6 +6,8 @@ pub mod Digits
 pub mod Decimals
 pub mod Answers
 pub mod NumberTrip
+pub mod LineEnds
+pub mod FieldTrip
 pub mod Senders
 pub mod Members
 pub mod WorldTrip
@@ -18,5 +20,8 @@ pub mod Turns
 pub mod Theorems
 pub mod Examples
 pub mod Refusals
+pub mod LedgerTrip
+pub mod LedgerLineTrip
+pub mod LedgerTheorems
 pub mod LedgerLines
 pub mod LedgerExamples

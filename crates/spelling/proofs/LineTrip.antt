@@ -1,14 +1,13 @@
 -- Lines there and back, and a line read where it stands in its text. Assumes nothing.
 use Prim.Native.Nat.{ℕ, zero, suc, _+_, _/_, _%_, _≤_, _<_}
 use native.Mathlib.Omega.{arith}
-use mathlib.Core.Bool.{Bool, true, false, cond, false≢true}
-use mathlib.Core.List.{List, [], _∷_, _++_, append-nil}
+use mathlib.Core.Bool.{true}
+use mathlib.Core.List.{List, [], _∷_, append-nil}
 use mathlib.Core.Logic.{⊎-elim}
 use mathlib.Core.Path.{_≡_, refl, sym, ap, _∙_}
-use lib.Dec.{eqb, leb}
-use lib.ListN.{length, getD, drop, drop-of-length-le, take-append-drop}
-use lib.Seq.{take-at}
-use borrow.Author.Tests.{ne-eqb, lt-ltb, le-ltb, le-leb, leb-true, eqb-true}
+use lib.Dec.{leb}
+use lib.ListN.{length, getD, drop, drop-of-length-le}
+use borrow.Author.Tests.{lt-ltb, le-ltb, le-leb, leb-true}
 use Rattle.common.proofs.Tests.{split, clash}
 use Rattle.kinds.specs.declared.Step.{Step}
 use Rattle.kinds.specs.declared.Step.the-variants.{Start, Abstain, Leave, Fail, Turn, Arrive, Notice}
@@ -18,15 +17,14 @@ use Rattle.spelling.specs.declared.Read.{Read}
 use Rattle.spelling.specs.declared.Read.the-variants.{Next, End}
 use Rattle.spelling.specs.declared.StepFound.{StepFound}
 use Rattle.spelling.specs.declared.StepFound.the-variants.{Spelled, Unspelled}
-use Rattle.spelling.specs.Numbers.{leads, digits}
+use Rattle.spelling.specs.Numbers.{digits}
 use Rattle.spelling.specs.Spelling.{members, worldText, stepText, isWritable}
-use Rattle.spelling.specs.Storing.{places}
 use Rattle.spelling.specs.Reading.{stepAt, whole, saidOf, readLineOf}
-use Rattle.spelling.specs.Fields.{lineLength, lineAt, nextFrom, nextAt}
-use Rattle.spelling.proofs.Places.{past, cut}
+use Rattle.spelling.specs.Fields.{lineAt, nextFrom, nextAt}
+use Rattle.spelling.proofs.LineEnds.{Ends, at-end, ends-last, ends-next, ends-not, noTen, ten-append, ten-digits, spans-line, spans-end, line-stands}
 use Rattle.spelling.proofs.Members.{members-odd, members-even, members-nil}
 use Rattle.spelling.proofs.WorldTrip.{parity}
-use Rattle.spelling.proofs.StepTrip.{Ends, at-end, at-ten, step-reads, StepIs, step-sound}
+use Rattle.spelling.proofs.StepTrip.{step-reads, step-sound}
 
 -- ---- a line by itself
 
@@ -52,28 +50,6 @@ line-sound limit line s lim got = go (stepAt limit line 0) refl got
 
 -- ---- no byte of a step is 10, so that a step's line ends behind the step
 
-unfoldable pub noTen : List ℕ → Bool
-noTen [] = true
-noTen (c ∷ l) = cond (eqb c 10) false (noTen l)
-
-ten-append : (a b : List ℕ) → noTen a ≡ true → noTen b ≡ true → noTen (a ++ b) ≡ true
-unfolding noTen
-ten-append [] b p q = q
-ten-append (c ∷ a) b p q = split (eqb c 10) (λ e. absurd (false≢true (rw e at p))) (λ e. rw e (ten-append a b (rw e at p) q))
-
-ten-digit : (x : ℕ) → noTen ((48 + x) ∷ []) ≡ true
-unfolding noTen
-ten-digit x = rw (ne-eqb (48 + x) 10 (λ e. omega arith)) refl
-
-ten-leads : (ps : List ℕ) (n : ℕ) → noTen (leads ps n) ≡ true
-unfolding noTen leads
-ten-leads [] n = refl
-ten-leads (p ∷ ps) n = split (leb p n) (λ e. rw (e, ne-eqb (48 + n / p % 10) 10 (λ z. omega arith)) (ten-leads ps n)) (λ e. rw e (ten-leads ps n))
-
-ten-digits : (n : ℕ) → noTen (digits n) ≡ true
-unfolding digits
-ten-digits n = ten-append (leads places n) _ (ten-leads places n) (ten-digit (n % 10))
-
 ten-members : (k b q : ℕ) (sep : List ℕ) → noTen sep ≡ true → noTen (members k b q sep) ≡ true
 unfolding noTen
 ten-members zero b q sep h = rw (members-nil b q sep) refl
@@ -96,44 +72,15 @@ ten-step (Turn b) = ten-digits (b .0)
 ten-step (Arrive b f) = ten-append (digits (b .0)) _ (ten-digits (b .0)) (ten-digits (f .0))
 ten-step (Notice b f) = ten-append (digits (b .0)) _ (ten-digits (b .0)) (ten-digits (f .0))
 
-ten-length : (w rest : List ℕ) → noTen w ≡ true → Ends rest → lineLength (w ++ rest) ≡ length w
-unfolding noTen lineLength
-ten-length [] [] h at-end = refl
-ten-length [] (c ∷ l) h (at-ten m) = refl
-ten-length (c ∷ w) rest h n = split (eqb c 10) (λ e. absurd (false≢true (rw e at h))) (λ e. rw e (ap suc (ten-length w rest (rw e at h) n)))
-
-pub step-line : (s : Step) (rest : List ℕ) → Ends rest → lineLength (stepText s ++ rest) ≡ length (stepText s)
-step-line s rest n = ten-length (stepText s) rest (ten-step s) n
-
 -- ---- a line where it stands in its text
-
-front-ends : (l : List ℕ) → Ends (drop (lineLength l) l)
-unfolding lineLength
-front-ends [] = at-end
-front-ends (c ∷ l) = split (eqb c 10) (λ e. rw (e, eqb-true c 10 e) (at-ten l)) (λ e. rw e (front-ends l))
-
--- a step that was read up to the end of its line is that line
-module _ (limit : ℕ) (text : List ℕ) (at : ℕ) (s : Step) (end : ℕ) (p : StepIs limit text at s end) (n : Ends (drop end text)) where
-  spelled-length : lineLength (drop at text) ≡ length (stepText s)
-  spelled-length = ap lineLength (p .spans .stands) ∙ step-line s (drop end text) n
-
-  spelled-line : lineAt text at ≡ stepText s
-  unfolding lineAt
-  spelled-line = rw (spelled-length, p .spans .stands) (take-at (stepText s) (drop end text) (length (stepText s)) refl)
-
-  spelled-end : at + lineLength (drop at text) ≡ end
-  spelled-end = omega (arith, spelled-length, p .spans .place)
 
 -- a line that says a step is read as that step where it stands
 line-found : (limit : ℕ) (text : List ℕ) (at : ℕ) (s : Step) → limit ≤ 32 → saidOf limit (lineAt text at) ≡ Does s
     → (end : ℕ) × (stepAt limit text at ≡ Spelled s end) × Ends (drop end text)
-unfolding lineAt
 line-found limit text at s lim got =
     let r = line-sound limit (lineAt text at) s lim got in
-    let n = lineLength (drop at text) in
-    let e : drop at text ≡ stepText s ++ drop n (drop at text) = sym (take-append-drop n (drop at text)) ∙ ap (λ (z : List ℕ). z ++ drop n (drop at text)) (r .0) in
-    let q = front-ends (drop at text) in
-    (at + length (stepText s), step-reads limit s text at (drop n (drop at text)) lim (r .1) q e, rw (past text at (stepText s) e) q)
+    let l = line-stands text at (stepText s) (r .0) in
+    (at + length (stepText s), step-reads limit s text at (l .0) lim (r .1) (l .2) (l .1), l .3)
 
 pub not-does : (l : Said) → ((s : Step) → l ≡ Does s → ⊥) → l ≡ Malformed
 not-does Malformed f = refl
@@ -160,24 +107,16 @@ module _ (limit : ℕ) (text : List ℕ) (at : ℕ) where
       unfolding readLineOf nextAt
       said n =
           let p = step-sound limit text at s end lim (sym e ∙ u) in
-          rw (lt-ltb at (length text) in-text, spelled-line limit text at s end p n, spelled-end limit text at s end p n, line-reads limit s lim (p .writable)) refl
+          let t = ten-step s in
+          rw (lt-ltb at (length text) in-text, spans-line text at (stepText s) end (p .spans) t n, spans-end text at (stepText s) end (p .spans) t n, line-reads limit s lim (p .writable)) refl
 
       pub read-last : length text ≤ end → Next (Does s) end ≡ readLineOf limit text at
       unfolding nextFrom
-      read-last h = let z : drop end text ≡ [] = drop-of-length-le text h in ap (λ (k : ℕ). Next (Does s) k) (rw (le-ltb end (length text) h) refl) ∙ said (rw z at-end)
+      read-last h = ap (λ (k : ℕ). Next (Does s) k) (rw (le-ltb end (length text) h) refl) ∙ said (ends-last text end h)
 
       pub read-next : end < length text → getD text end 0 ≡ 10 → Next (Does s) (end + 1) ≡ readLineOf limit text at
       unfolding nextFrom
-      read-next h t =
-          let z : drop end text ≡ 10 ∷ drop (end + 1) text = cut text end h ∙ ap (λ (c : ℕ). c ∷ drop (end + 1) text) t in
-          ap (λ (k : ℕ). Next (Does s) k) (rw (lt-ltb end (length text) h) refl) ∙ said (rw z (at-ten (drop (end + 1) text)))
+      read-next h t = ap (λ (k : ℕ). Next (Does s) k) (rw (lt-ltb end (length text) h) refl) ∙ said (ends-next text end h t)
 
       pub read-on : end < length text → (getD text end 0 ≡ 10 → ⊥) → {r : Read} → r ≡ Next Malformed (nextAt text at) → r ≡ readLineOf limit text at
-      read-on h t q = not-said (λ s′ end′ v n. let same : end ≡ end′ = cc in goes-on (rw (← same) at n)) q
-        where
-          goes-on : Ends (drop end text) → ⊥
-          goes-on n = other (drop end text) n (cut text end h)
-            where
-              other : (l : List ℕ) → Ends l → l ≡ getD text end 0 ∷ drop (end + 1) text → ⊥
-              other [] at-end g = clash (cc)
-              other (c ∷ l) (at-ten m) g = t (cc)
+      read-on h t q = not-said (λ s′ end′ v n. let same : end ≡ end′ = cc in ends-not text end h t (rw (← same) at n)) q

@@ -3,7 +3,7 @@ use Prim.Native.Nat.{ℕ, suc, _+_, _≤_, _<_}
 use native.Mathlib.Omega.{arith}
 use mathlib.Core.Bool.{Bool, true, false, false≢true, _||_}
 use mathlib.Core.List.{List, [], _∷_}
-use mathlib.Core.Path.{_≡_, refl, sym, _∙_}
+use mathlib.Core.Path.{_≡_, refl, sym, ap, _∙_}
 use lib.Dec.{eqb}
 use lib.ListN.{length, getD, drop, drop-of-length-le}
 use borrow.Author.Tests.{eq-eqb, ne-eqb, eqb-false, lt-ltb, le-ltb}
@@ -103,10 +103,16 @@ length-within (c ∷ l) = let h = length-within l in cond-ind (λ n. n ≤ suc (
 -- ---- the place of the next line
 
 module _ (text : List ℕ) (at : ℕ) {end : ℕ} (e : end ≡ at + lineLength (drop at text)) where
-  pub next-more : end < length text → Next Malformed (end + 1) ≡ Next Malformed (nextAt text at)
+  pub place-more : end < length text → end + 1 ≡ nextAt text at
   unfolding nextAt nextFrom
-  next-more h = rw (← e, lt-ltb end (length text) h) refl
+  place-more h = rw (← e, lt-ltb end (length text) h) refl
+
+  pub place-last : length text ≤ end → end ≡ nextAt text at
+  unfolding nextAt nextFrom
+  place-last h = rw (← e, le-ltb end (length text) h) refl
+
+  pub next-more : end < length text → Next Malformed (end + 1) ≡ Next Malformed (nextAt text at)
+  next-more h = ap (λ (k : ℕ). Next Malformed k) (place-more h)
 
   pub next-last : length text ≤ end → Next Malformed end ≡ Next Malformed (nextAt text at)
-  unfolding nextAt nextFrom
-  next-last h = rw (← e, le-ltb end (length text) h) refl
+  next-last h = ap (λ (k : ℕ). Next Malformed k) (place-last h)

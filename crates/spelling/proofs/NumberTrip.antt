@@ -1,6 +1,7 @@
--- Numbers there and back: what `digits` writes of a number up to 99,999 `numberAt` reads, and what it reads is what `digits` writes. Assumes nothing.
+-- Numbers there and back: what `digits` writes of a number with no more digits than may be read `numberUpto` reads, and what it reads is what
+-- `digits` writes; so for `numberAt` and numbers up to 99,999. Assumes nothing.
 use Prim.Native.Nat.{ℕ, zero, suc, _+_, _-_, _*_, _/_, _%_, _≤_, _<_, _^_}
-use native.Mathlib.Nat.{pow-le-pow-right, zero-lt-suc}
+use native.Mathlib.Nat.{pow-suc, pow-le-pow-right, zero-lt-suc}
 use native.Mathlib.Omega.{arith}
 use native.Mathlib.Numerals.{sub-one}
 use mathlib.Core.List.{List, [], _∷_, _++_, append-assoc}
@@ -12,9 +13,9 @@ use borrow.Author.Tests.{le-leb, lt-leb}
 use Rattle.common.proofs.Tests.{clash, split}
 use Rattle.spelling.specs.declared.Found.the-variants.{Got, Nothing}
 use Rattle.spelling.specs.Numbers.{digits}
-use Rattle.spelling.specs.Fields.{digitOf, digitAt, moreDigits, numberAt, below}
+use Rattle.spelling.specs.Fields.{digitOf, digitAt, moreDigits, numberUpto, numberAt, below}
 use Rattle.spelling.proofs.Places.{le-or-lt, here, past, cut, Spans, spans-then}
-use Rattle.spelling.proofs.Digits.{more-stop, more-none, more-step, number-none, number-zero, number-more, digit-within, below-turn, below-most}
+use Rattle.spelling.proofs.Digits.{more-stop, more-none, more-step, upto-none, upto-zero, upto-more, first-none, first-more, digit-within, below-turn, below-most}
 use Rattle.spelling.proofs.Decimals.{digits-small, digits-snoc, digits-large, small-length}
 
 -- ---- a digit and its byte
@@ -36,39 +37,20 @@ byte-of-digit c h =
 
 -- ---- what is written is read
 
--- what k digits make is below this
-upto : ℕ → ℕ
-upto zero = 1
-upto (suc zero) = 10
-upto (suc (suc zero)) = 100
-upto (suc (suc (suc zero))) = 1000
-upto (suc (suc (suc (suc zero)))) = 10000
-upto (suc (suc (suc (suc (suc zero))))) = 100000
-upto (suc (suc (suc (suc (suc (suc k)))))) = 0
-
-upto-div : (k n : ℕ) → n < upto (suc k) → (n / 10 < upto k) × (n < 100000)
-unfolding upto
-upto-div zero n h = omega arith
-upto-div (suc zero) n h = omega arith
-upto-div (suc (suc zero)) n h = omega arith
-upto-div (suc (suc (suc zero))) n h = omega arith
-upto-div (suc (suc (suc (suc zero)))) n h = omega arith
-upto-div (suc (suc (suc (suc (suc k))))) n h = omega arith
-
--- after n's digits the reader stands behind them with n, and room for what is left of five
-digits-read : (k n : ℕ) (text : List ℕ) (at r : ℕ) (rest : List ℕ) → 0 < n → n < upto k → r + length (digits n) ≡ 5 → drop at text ≡ digits n ++ rest
-    → numberAt text at ≡ moreDigits r text (at + length (digits n)) n
-unfolding upto
-digits-read zero n text at r rest pos h room e = absurd (omega arith)
-digits-read (suc k) n text at r rest pos h room e =
+-- after n's digits the reader stands behind them with n, and room for what is left of those that may be read; n has at most k
+digits-read : (more k n : ℕ) (text : List ℕ) (at r : ℕ) (rest : List ℕ) → 0 < n → n < 10 ^ k → n < 10000000000 → r + length (digits n) ≡ suc more → drop at text ≡ digits n ++ rest
+    → numberUpto more text at ≡ moreDigits r text (at + length (digits n)) n
+digits-read more zero n text at r rest pos h t room e = absurd (omega arith)
+digits-read more (suc k) n text at r rest pos h t room e =
     ⊎-elim (λ (big : 10 ≤ n).
     let v = n / 10 in
     let x = n % 10 in
-    let s : digits n ≡ digits v ++ ((48 + x) ∷ []) = digits-large n big (upto-div k n h .1) in
+    let s : digits n ≡ digits v ++ ((48 + x) ∷ []) = digits-large n big t in
     let len : length (digits n) ≡ length (digits v) + 1 = ap length s ∙ length-append (digits v) ((48 + x) ∷ []) in
     let e′ : drop at text ≡ digits v ++ ((48 + x) ∷ rest) = e ∙ ap (λ (z : List ℕ). z ++ rest) s ∙ append-assoc (digits v) ((48 + x) ∷ []) rest in
     let d : digitAt text (at + length (digits v)) ≡ x = digit-here text (at + length (digits v)) (omega arith) (past text at (digits v) e′) in
-    let ih : numberAt text at ≡ moreDigits (suc r) text (at + length (digits v)) v = digits-read k v text at (suc r) ((48 + x) ∷ rest) (omega arith) (upto-div k n h .0) (omega arith) e′ in
+    let less : v < 10 ^ k = omega (arith, pow-suc 10 k) in
+    let ih : numberUpto more text at ≡ moreDigits (suc r) text (at + length (digits v)) v = digits-read more k v text at (suc r) ((48 + x) ∷ rest) (omega arith) less (omega arith) (omega arith) e′ in
     let last : v * 10 + x ≡ n = omega arith in
     let place : at + length (digits v) + 1 ≡ at + length (digits n) = omega arith in
     ih ∙ more-step r text (at + length (digits v)) v (sym d) (omega arith) ∙ rw (last, place) refl)
@@ -76,25 +58,28 @@ digits-read (suc k) n text at r rest pos h room e =
     let s : digits n ≡ (48 + n) ∷ [] = digits-small n small in
     let e′ : drop at text ≡ (48 + n) ∷ rest = rw s at e in
     let d : n ≡ digitAt text at = sym (digit-here text at small e′) in
-    let r4 : r ≡ 4 = omega (arith, ap length s) in
-    sym (number-more text at d small (λ z. omega arith) refl) ∙ rw (s, r4) refl)
+    let all : r ≡ more = omega (arith, ap length s) in
+    sym (upto-more more text at d small (λ z. omega arith) refl) ∙ rw (s, all) refl)
     (le-or-lt 10 n)
 
 -- behind the number stands no digit
-pub number-reads : (n : ℕ) (text : List ℕ) (at : ℕ) (rest : List ℕ) → n < 100000 → drop at text ≡ digits n ++ rest → 10 ≤ digitAt text (at + length (digits n))
-    → numberAt text at ≡ Got n (at + length (digits n))
-unfolding upto
-number-reads n text at rest h e stop =
+pub upto-reads : (more n : ℕ) (text : List ℕ) (at : ℕ) (rest : List ℕ) → n < 10000000000 → length (digits n) ≤ suc more → drop at text ≡ digits n ++ rest → 10 ≤ digitAt text (at + length (digits n))
+    → numberUpto more text at ≡ Got n (at + length (digits n))
+upto-reads more n text at rest t h e stop =
     ⊎-elim (λ (pos : 1 ≤ n).
-    let k = small-length n h in
-    digits-read 5 n text at (5 - length (digits n)) rest pos h (omega arith) e ∙ more-stop _ text _ n refl stop)
+    digits-read more 10 n text at (suc more - length (digits n)) rest pos t t (omega arith) e ∙ more-stop _ text _ n refl stop)
     (λ (z : n < 1).
     let s : digits n ≡ (48 + n) ∷ [] = digits-small n (omega arith) in
     let e′ : drop at text ≡ (48 + n) ∷ rest = rw s at e in
     let d : n ≡ digitAt text at = sym (digit-here text at (omega arith) e′) in
     let stop′ : 10 ≤ digitAt text (at + 1) = rw s at stop in
-    sym (number-zero text at d (omega arith) (omega arith) refl) ∙ more-stop 0 text (at + 1) n refl stop′ ∙ rw s refl)
+    sym (upto-zero more text at d (omega arith) (omega arith) refl) ∙ more-stop 0 text (at + 1) n refl stop′ ∙ rw s refl)
     (le-or-lt 1 n)
+
+pub number-reads : (n : ℕ) (text : List ℕ) (at : ℕ) (rest : List ℕ) → n < 100000 → drop at text ≡ digits n ++ rest → 10 ≤ digitAt text (at + length (digits n))
+    → numberAt text at ≡ Got n (at + length (digits n))
+unfolding numberAt
+number-reads n text at rest h e stop = upto-reads 4 n text at rest (omega arith) (small-length n h .1) e stop
 
 -- ---- what is read is what is written
 
@@ -104,56 +89,60 @@ cut-digit text at h =
     let w : at + 1 ≤ length text = digit-within text at refl h in
     record { stands = cut text at (omega arith) ∙ ap (λ (c : ℕ). c ∷ drop (at + 1) text) (sym (byte-of-digit (getD text at 0) h)); place = refl }
 
--- n stands at a place, and is one that can be written
-pub record NumberIs (text : List ℕ) (at n next : ℕ) : Type 0 where
+-- n stands at a place, and has no more digits than may be written
+pub record NumberIs (width : ℕ) (text : List ℕ) (at n next : ℕ) : Type 0 where
   pub spans : Spans text at (digits n) next
-  pub small : n < 100000
+  pub small : n < 10 ^ width
 
-below-suc : (r v : ℕ) → v < below 5 (suc r) → v < 10000
+below-suc : (w r v : ℕ) → w ≤ 10 → v < below w (suc r) → v < 1000000000
 unfolding below
-below-suc r v h = split (leb (suc r) 5)
+below-suc w r v ten h = split (leb (suc r) w)
     (λ e.
-    let g : v < 10 ^ (5 - suc r) = rw e at h in
-    let top : 10 ^ (5 - suc r) ≤ 10 ^ 4 = pow-le-pow-right (zero-lt-suc 9) {j = 4} (omega arith) in
+    let g : v < 10 ^ (w - suc r) = rw e at h in
+    let top : 10 ^ (w - suc r) ≤ 10 ^ 9 = pow-le-pow-right (zero-lt-suc 9) {j = 9} (omega arith) in
     omega arith)
     (λ e. let g : v < 0 = rw e at h in absurd (omega arith))
-
-stopped : (r : ℕ) (text : List ℕ) (from at v n next : ℕ) → v < below 5 r → Spans text from (digits v) at → 10 ≤ digitAt text at → moreDigits r text at v ≡ Got n next → NumberIs text from n next
-stopped r text from at v n next h s stop got =
-    let same : Got v at ≡ Got n next = sym (more-stop r text at v refl stop) ∙ got in
-    let a : v ≡ n = cc in
-    let b : at ≡ next = cc in
-    record { spans = rw (← a, ← b) s; small = omega (arith, below-most 5 r) }
 
 pub none-found : {A : Type 0} {n next : ℕ} → Nothing ≡ Got n next → A
 none-found e = clash (cc)
 
-more-sound : (r : ℕ) (text : List ℕ) (from at v n next : ℕ) → 0 < v → v < below 5 r → Spans text from (digits v) at → moreDigits r text at v ≡ Got n next → NumberIs text from n next
-more-sound zero text from at v n next pos h s got =
-    ⊎-elim (λ (stop : 10 ≤ digitAt text at). stopped 0 text from at v n next h s stop got)
-    (λ (d : digitAt text at < 10). none-found (sym (more-none text at v refl d) ∙ got))
-    (le-or-lt 10 (digitAt text at))
-more-sound (suc r) text from at v n next pos h s got =
-    ⊎-elim (λ (stop : 10 ≤ digitAt text at). stopped (suc r) text from at v n next h s stop got)
-    (λ (d : digitAt text at < 10).
-    let x = digitAt text at in
-    let s′ : Spans text from (digits (v * 10 + x)) (at + 1) = rw (digits-snoc v x pos (below-suc r v h) d) (spans-then s (cut-digit text at d)) in
-    let top : v * 10 + x < below 5 r = rw sub-one at (below-turn 5 (suc r) v x (λ z. omega arith) h d) in
-    more-sound r text from (at + 1) (v * 10 + x) n next (omega arith) top s′ (sym (more-step r text at v refl d) ∙ got))
-    (le-or-lt 10 (digitAt text at))
+module _ (w : ℕ) where
+  stopped : (r : ℕ) (text : List ℕ) (from at v n next : ℕ) → v < below w r → Spans text from (digits v) at → 10 ≤ digitAt text at → moreDigits r text at v ≡ Got n next → NumberIs w text from n next
+  stopped r text from at v n next h s stop got =
+      let same : Got v at ≡ Got n next = sym (more-stop r text at v refl stop) ∙ got in
+      let a : v ≡ n = cc in
+      let b : at ≡ next = cc in
+      record { spans = rw (← a, ← b) s; small = omega (arith, below-most w r) }
 
-pub number-sound : (text : List ℕ) (at n next : ℕ) → numberAt text at ≡ Got n next → NumberIs text at n next
-unfolding below
-number-sound text at n next got =
-    ⊎-elim (λ (stop : 10 ≤ digitAt text at). none-found (number-none text at refl stop ∙ got))
+  more-sound : (r : ℕ) (text : List ℕ) (from at v n next : ℕ) → w ≤ 10 → 0 < v → v < below w r → Spans text from (digits v) at → moreDigits r text at v ≡ Got n next → NumberIs w text from n next
+  more-sound zero text from at v n next ten pos h s got =
+      ⊎-elim (λ (stop : 10 ≤ digitAt text at). stopped 0 text from at v n next h s stop got)
+      (λ (d : digitAt text at < 10). none-found (sym (more-none text at v refl d) ∙ got))
+      (le-or-lt 10 (digitAt text at))
+  more-sound (suc r) text from at v n next ten pos h s got =
+      ⊎-elim (λ (stop : 10 ≤ digitAt text at). stopped (suc r) text from at v n next h s stop got)
+      (λ (d : digitAt text at < 10).
+      let x = digitAt text at in
+      let s′ : Spans text from (digits (v * 10 + x)) (at + 1) = rw (digits-snoc v x pos (below-suc w r v ten h) d) (spans-then s (cut-digit text at d)) in
+      let top : v * 10 + x < below w r = rw sub-one at (below-turn w (suc r) v x (λ z. omega arith) h d) in
+      more-sound r text from (at + 1) (v * 10 + x) n next ten (omega arith) top s′ (sym (more-step r text at v refl d) ∙ got))
+      (le-or-lt 10 (digitAt text at))
+
+pub upto-sound : (more : ℕ) (text : List ℕ) (at n next : ℕ) → more ≤ 9 → numberUpto more text at ≡ Got n next → NumberIs (suc more) text at n next
+upto-sound more text at n next nine got =
+    ⊎-elim (λ (stop : 10 ≤ digitAt text at). none-found (upto-none more text at refl stop ∙ got))
     (λ (d : digitAt text at < 10).
     let x = digitAt text at in
     let s : Spans text at (digits x) (at + 1) = rw (digits-small x d) (cut-digit text at d) in
-    ⊎-elim (λ (pos : 1 ≤ x). more-sound 4 text at (at + 1) x n next pos d s (number-more text at refl d (λ z. omega arith) refl ∙ got))
+    ⊎-elim (λ (pos : 1 ≤ x). more-sound (suc more) more text at (at + 1) x n next (omega arith) pos (first-more more x d) s (upto-more more text at refl d (λ z. omega arith) refl ∙ got))
     (λ (none : x < 1).
-    let got′ : moreDigits 0 text (at + 1) x ≡ Got n next = number-zero text at refl d (omega arith) refl ∙ got in
-    ⊎-elim (λ (stop : 10 ≤ digitAt text (at + 1)). stopped 0 text at (at + 1) x n next (omega arith) s stop got′)
+    let got′ : moreDigits 0 text (at + 1) x ≡ Got n next = upto-zero more text at refl d (omega arith) refl ∙ got in
+    ⊎-elim (λ (stop : 10 ≤ digitAt text (at + 1)). stopped (suc more) 0 text at (at + 1) x n next (first-none (suc more) x (omega arith)) s stop got′)
     (λ (more : digitAt text (at + 1) < 10). none-found (sym (more-none text (at + 1) x refl more) ∙ got′))
     (le-or-lt 10 (digitAt text (at + 1))))
     (le-or-lt 1 x))
     (le-or-lt 10 (digitAt text at))
+
+pub number-sound : (text : List ℕ) (at n next : ℕ) → numberAt text at ≡ Got n next → NumberIs 5 text at n next
+unfolding numberAt
+number-sound text at n next got = upto-sound 4 text at n next (omega arith) got

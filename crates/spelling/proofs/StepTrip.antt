@@ -1,18 +1,17 @@
 -- Steps there and back: where a step is spelled and the line ends behind it, `stepAt` reads it, and what it reads is spelled there. Assumes nothing.
 use Prim.Native.Nat.{ℕ, _+_, _≤_, _<_}
 use native.Mathlib.Omega.{arith}
-use mathlib.Core.Bool.{Bool, true, cond, _&&_}
-use mathlib.Core.List.{List, [], _∷_, _++_, append-assoc}
+use mathlib.Core.Bool.{true, cond, _&&_}
+use mathlib.Core.List.{List, _++_, append-assoc}
 use mathlib.Core.Path.{_≡_, refl, ap, _∙_}
-use lib.Dec.{lit≤}
-use lib.ListN.{length, getD, drop, length-append}
+use lib.ListN.{length, drop, length-append}
 use borrow.Author.Tests.{lt-ltb, ltb-true}
 use Rattle.common.proofs.Tests.{both, split, clash}
 use Rattle.kinds.specs.declared.BenchNo.{BenchNo}
 use Rattle.kinds.specs.declared.Step.{Step}
 use Rattle.kinds.specs.declared.Step.the-variants.{Start, Abstain, Leave, Fail, Turn, Arrive, Notice}
 use Rattle.spelling.specs.declared.Found.{Found}
-use Rattle.spelling.specs.declared.Found.the-variants.{Got, Nothing}
+use Rattle.spelling.specs.declared.Found.the-variants.{Got}
 use Rattle.spelling.specs.declared.Verb.{Verb}
 use Rattle.spelling.specs.declared.Verb.the-variants as verb
 use Rattle.spelling.specs.declared.VerbFound.{VerbFound}
@@ -23,30 +22,17 @@ use Rattle.spelling.specs.Numbers.{ascii, digits}
 use Rattle.spelling.specs.Spelling.{worldText, stepText, isSmall, isWorld, isWritable}
 use Rattle.spelling.specs.Fields.{isPrefix, digitAt, numberAt, fieldAt, on}
 use Rattle.spelling.specs.Reading.{worldAt, keyOf, rareVerbAt, verbAt, startAt, fromAt, restAt, onVerb, stepAt}
-use Rattle.spelling.proofs.Places.{head-at, here, past, Spans, spans-then}
-use Rattle.spelling.proofs.Keys.{prefix-own, key-spans}
+use Rattle.spelling.proofs.Places.{past, Spans, spans-then}
+use Rattle.spelling.proofs.Keys.{key-spans}
 use Rattle.spelling.proofs.NumberTrip.{number-reads, number-sound}
+use Rattle.spelling.proofs.LineEnds.{Ends, ends-byte}
+use Rattle.spelling.proofs.FieldTrip.{both-true, space-stops, field-reads, field-sound, on-got}
 use Rattle.spelling.proofs.WorldTrip.{Stops, world-reads, world-sound}
 
 -- ---- what stands behind a number or a world
 
--- the line ends: at the text's end, or at byte 10
-pub data Ends : List ℕ → Type 0 where
-  at-end : Ends []
-  at-ten : (l : List ℕ) → Ends (10 ∷ l)
-
-space-stops : (text : List ℕ) (at : ℕ) {l : List ℕ} → drop at text ≡ 32 ∷ l → 10 ≤ digitAt text at
-unfolding digitAt
-space-stops text at e = rw (here text at e) (lit≤ tt)
-
 ends-stop : (text : List ℕ) (at : ℕ) {rest : List ℕ} → Ends rest → drop at text ≡ rest → Stops text at
-unfolding digitAt
-ends-stop text at at-end e =
-    let z : getD text at 0 ≡ 0 = head-at text at ∙ ap (λ (l : List ℕ). getD l 0 0) e in
-    record { no-digit = rw z (lit≤ tt); no-comma = λ c. omega arith }
-ends-stop text at (at-ten l) e =
-    let z : getD text at 0 ≡ 10 = here text at e in
-    record { no-digit = rw z (lit≤ tt); no-comma = λ c. omega arith }
+ends-stop text at n e = let b = ends-byte text at n e in record { no-digit = b .0; no-comma = λ c. omega arith }
 
 -- ---- what is written is read
 
@@ -59,12 +45,6 @@ verb-reads verb.Fail text at rest e = rw e refl
 verb-reads verb.Turn text at rest e = rw e refl
 verb-reads verb.Arrive text at rest e = rw e refl
 verb-reads verb.Notice text at rest e = rw e refl
-
-field-reads : (key text : List ℕ) (at n : ℕ) (rest : List ℕ) → n < 100000 → drop at text ≡ key ++ (digits n ++ rest) → 10 ≤ digitAt text (at + length key + length (digits n))
-    → fieldAt key text at ≡ Got n (at + length key + length (digits n))
-unfolding fieldAt
-field-reads key text at n rest h e stop =
-    rw (e, prefix-own key (digits n ++ rest)) (number-reads n text (at + length key) rest h (past text at key e) stop)
 
 -- the bench of a step, and what follows it
 head-reads : (limit : ℕ) (v : Verb) (text : List ℕ) (at b : ℕ) (rest : List ℕ) → b < 100000 → drop at text ≡ ascii "step=" ++ (keyOf v ++ (digits b ++ rest))
@@ -156,16 +136,7 @@ none-spelled : {A : Type 0} {s : Step} {end : ℕ} → Unspelled ≡ Spelled s e
 none-spelled e = clash (cc)
 
 on-found : {s : Step} {end : ℕ} (n : Found) (f : ℕ → ℕ → StepFound) → on Unspelled n f ≡ Spelled s end → (v : ℕ) × (next : ℕ) × (n ≡ Got v next) × (f v next ≡ Spelled s end)
-on-found Nothing f e = none-spelled e
-on-found (Got v next) f e = (v, next, refl, e)
-
-field-sound : (key text : List ℕ) (at n next : ℕ) → fieldAt key text at ≡ Got n next → Spans text at (key ++ digits n) next × (isSmall n ≡ true)
-unfolding fieldAt
-field-sound key text at n next got = split (isPrefix key (drop at text))
-    (λ e.
-    let r = number-sound text (at + length key) n next (rw e at got) in
-    (spans-then (key-spans key text at e) (r .spans), lt-ltb n 100000 (r .small)))
-    (λ e. let z : Nothing ≡ Got n next = rw e at got in clash (cc))
+on-found n f e = on-got n f none-spelled e
 
 tried-sound : (text : List ℕ) (at : ℕ) (u v : Verb) (next : ℕ) (other : VerbFound) → (other ≡ Known v next → Spans text at (keyOf v) next)
     → cond (isPrefix (keyOf u) (drop at text)) (Known u (at + length (keyOf u))) other ≡ Known v next → Spans text at (keyOf v) next
@@ -187,9 +158,6 @@ verb-sound : (text : List ℕ) (at : ℕ) (v : Verb) (next : ℕ) → verbAt tex
 unfolding verbAt
 verb-sound text at v next got =
     tried-sound text at verb.Arrive v next _ (λ g₁. tried-sound text at verb.Turn v next _ (λ g₂. tried-sound text at verb.Notice v next _ (λ g₃. rare-sound text at v next g₃) g₂) g₁) got
-
-both-true : {a b : Bool} → a ≡ true → b ≡ true → (a && b) ≡ true
-both-true p q = cc
 
 -- the bench b was read, up to `next`; what the rest makes of it
 module _ (limit : ℕ) (text : List ℕ) (at b next : ℕ) (small : isSmall b ≡ true) where

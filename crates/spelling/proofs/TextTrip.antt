@@ -15,13 +15,14 @@ use Rattle.spelling.specs.declared.Said.{Said}
 use Rattle.spelling.specs.declared.Said.the-variants.{Does}
 use Rattle.spelling.specs.Spelling.{stepText}
 use Rattle.spelling.specs.Lines.{linesOf}
-use Rattle.spelling.specs.Text.{lineText, writeText}
-use Rattle.spelling.specs.Reading.{saidOf, readText}
+use Rattle.spelling.specs.Text.{readText, lineText, writeText}
+use Rattle.spelling.specs.Reading.{saidOf}
 use Rattle.spelling.specs.Fields.{lineLength, lineAt, nextFrom, nextAt}
 use Rattle.spelling.specs.InTurn.{AllWritable}
 use Rattle.spelling.proofs.Places.{le-or-lt, cut}
 use Rattle.spelling.proofs.Lines.{length-within}
-use Rattle.spelling.proofs.LineTrip.{noTen, ten-step, line-reads, line-sound}
+use Rattle.spelling.proofs.LineTrip.{ten-step, line-reads, line-sound}
+use Rattle.spelling.proofs.LineEnds.{noTen}
 
 -- ---- what stands before a byte 10 and what stands behind it
 

@@ -1,5 +1,5 @@
--- What holds of run text, for worlds that name benches up to any limit from 0 to 32 (16 in a run) and for texts of any length, so those of
--- at most 65,536 bytes. `lineOf` is what a line reads to, `readText` what a text reads to, line by line. Assumes nothing.
+-- What holds of run text, for worlds that name benches up to any limit from 0 to 32, so up to as many as there are, and for texts of any
+-- length, so for those that are played. `saidOf` is what a line reads to, `readText` what a text reads to, line by line. Assumes nothing.
 use Prim.Native.Nat.{ℕ, _+_, _≤_}
 use mathlib.Core.Bool.{true}
 use mathlib.Core.List.{List, [], _∷_, _++_, map}
@@ -10,9 +10,9 @@ use Rattle.kinds.specs.declared.Step.{Step}
 use Rattle.spelling.specs.declared.Said.the-variants.{Does, Malformed}
 use Rattle.spelling.specs.declared.Read.the-variants.{Next}
 use Rattle.spelling.specs.Spelling.{stepText, isWritable}
-use Rattle.spelling.specs.Text.{lineText, writeText, roomAfter}
+use Rattle.spelling.specs.Text.{readText, lineText, writeText, roomAfter}
 use Rattle.spelling.specs.Stored.{Stored}
-use Rattle.spelling.specs.Reading.{saidOf, readText, readLineOf}
+use Rattle.spelling.specs.Reading.{saidOf, readLineOf}
 use Rattle.spelling.specs.InTurn.{AllWritable, readAll, roomAll, placeAll}
 use Rattle.spelling.proofs.LineTrip.{line-reads, line-sound, not-does}
 use Rattle.spelling.proofs.TextTrip.{text-reads, text-sound, text-apart}

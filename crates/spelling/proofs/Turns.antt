@@ -8,6 +8,7 @@ use mathlib.Core.Path.{_≡_, refl, sym, ap, _∙_}
 use lib.ListN.{length, take, drop, length-append, length-take, drop-of-length-le}
 use lib.Seq.{sets, sets-eq, length-sets, drop-at}
 use borrow.Author.Tests.{lt-ltb, le-ltb, le-leb}
+use Rattle.common.specs.Checks.{judge}
 use Rattle.kinds.specs.declared.Step.{Step}
 use Rattle.spelling.specs.declared.Said.{Said}
 use Rattle.spelling.specs.declared.Said.the-variants.{Does}
@@ -15,14 +16,15 @@ use Rattle.spelling.specs.declared.Read.the-variants.{Next}
 use Rattle.spelling.specs.declared.Written.the-variants.{Bytes}
 use Rattle.spelling.specs.Spelling.{stepText, isWritable}
 use Rattle.spelling.specs.Lines.{linesOf}
-use Rattle.spelling.specs.Text.{lineText, writeText, writeLineOf, roomAfter}
+use Rattle.spelling.specs.Text.{readText, lineText, writeText, writtenOf, numberFor, writeLineOf, roomAfter}
 use Rattle.spelling.specs.Stored.{Stored, fits}
-use Rattle.spelling.specs.Reading.{saidOf, readText, readLineOf}
+use Rattle.spelling.specs.Reading.{saidOf, readLineOf}
 use Rattle.spelling.specs.Fields.{lineAt, nextAt}
 use Rattle.spelling.specs.InTurn.{AllWritable, readAll, bytesOf, roomAll, placeAll}
 use Rattle.spelling.proofs.Places.{le-or-lt, here, past}
 use Rattle.spelling.proofs.Stores.{stored-nil, stored-then, stored-length}
-use Rattle.spelling.proofs.StepTrip.{at-ten, step-reads}
+use Rattle.spelling.proofs.LineEnds.{at-ten}
+use Rattle.spelling.proofs.StepTrip.{step-reads}
 use Rattle.spelling.proofs.LineTrip.{read-next}
 use Rattle.spelling.proofs.TextTrip.{lines-at, next-above}
 
@@ -43,11 +45,11 @@ all-read limit (suc k) text at h =
 -- one line that is writable and has room
 module _ (limit : ℕ) (s : Step) (room : List ℕ) (at : ℕ) (w : isWritable limit s ≡ true) (h : at + length (lineText s) ≤ length room) where
   pub one-answer : writeLineOf limit s room at ≡ Bytes (length (lineText s))
-  unfolding writeLineOf fits
+  unfolding writeLineOf writtenOf numberFor judge fits
   one-answer = rw (w, le-leb (at + length (lineText s)) (length room) h) refl
 
   pub one-room : roomAfter limit s room at ≡ sets room at (lineText s)
-  unfolding roomAfter fits
+  unfolding roomAfter numberFor judge fits
   one-room = rw (w, le-leb (at + length (lineText s)) (length room) h) refl
 
   pub one-stored : Stored room at (lineText s) (at + bytesOf (writeLineOf limit s room at)) (roomAfter limit s room at)

@@ -1,4 +1,4 @@
--- How keys, numbers and the ends of lines are read, place by place, in the way of the code. This file need not be believed for run text: see Reading.
+-- How keys, numbers and the ends of lines are read, place by place, in the way of the code. This file need not be believed: see Reading and LedgerReading.
 use Prim.Native.Nat.{ℕ, zero, suc, _+_, _-_, _*_, _^_}
 use mathlib.Core.Bool.{Bool, true, false, cond}
 use mathlib.Core.List.{List, [], _∷_}
@@ -29,9 +29,13 @@ unfoldable pub moreDigits : ℕ → List ℕ → ℕ → ℕ → Found
 moreDigits zero text at v = cond (ltb (digitAt text at) 10) Nothing (Got v at)
 moreDigits (suc room) text at v = cond (ltb (digitAt text at) 10) (moreDigits room text (at + 1) (v * 10 + digitAt text at)) (Got v at)
 
--- the number at a place: after a first 0 no digit may follow, after another at most 4
+-- the number at a place: after a first 0 no digit may follow, after another at most `more`
+abbrev pub numberUpto : ℕ → List ℕ → ℕ → Found
+numberUpto more text at = cond (ltb (digitAt text at) 10) (moreDigits (cond (eqb (digitAt text at) 0) 0 more) text (at + 1) (digitAt text at)) Nothing
+
+-- one of up to 5 digits
 unfoldable pub numberAt : List ℕ → ℕ → Found
-numberAt text at = cond (ltb (digitAt text at) 10) (moreDigits (cond (eqb (digitAt text at) 0) 0 4) text (at + 1) (digitAt text at)) Nothing
+numberAt text at = numberUpto 4 text at
 
 -- what a number of up to `width` digits is below when `room` more may follow; more than the width has cannot
 unfoldable pub below : ℕ → ℕ → ℕ

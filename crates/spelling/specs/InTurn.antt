@@ -1,4 +1,4 @@
--- What a caller does with a whole text: it reads line after line, and writes line after line. Three theorems are stated by it. This file is to be believed.
+-- What a caller does with a whole text: it reads line after line, and writes line after line. Four theorems are stated by it. This file is to be believed.
 use Prim.Native.Nat.{ℕ, zero, suc, _+_}
 use mathlib.Core.Bool.{true}
 use mathlib.Core.Path.{_≡_}
@@ -12,6 +12,10 @@ use Rattle.spelling.specs.declared.Written.the-variants.{Bytes, Refused}
 use Rattle.spelling.specs.Spelling.{isWritable}
 use Rattle.spelling.specs.Text.{writeLineOf, roomAfter}
 use Rattle.spelling.specs.Reading.{readLineOf}
+use Rattle.spelling.specs.declared.LedgerSaid.{LedgerSaid}
+use Rattle.spelling.specs.declared.LedgerRead.{LedgerRead}
+use Rattle.spelling.specs.declared.LedgerRead.the-variants as script
+use Rattle.spelling.specs.LedgerReading.{readScriptLineOf}
 
 unfoldable pub AllWritable : ℕ → List Step → Type 0
 AllWritable limit [] = Unit {0}
@@ -38,3 +42,14 @@ roomAll limit (s ∷ ss) room at = roomAll limit ss (roomAfter limit s room at) 
 unfoldable pub placeAll : ℕ → List Step → List ℕ → ℕ → ℕ
 placeAll limit [] room at = at
 placeAll limit (s ∷ ss) room at = placeAll limit ss (roomAfter limit s room at) (at + bytesOf (writeLineOf limit s room at))
+
+-- ---- ledger scripts
+
+abbrev pub onScriptRead : LedgerRead → (ℕ → List LedgerSaid) → List LedgerSaid
+onScriptRead script.End f = []
+onScriptRead (script.Next l next) f = l ∷ f next
+
+-- the lines that up to k calls of the script's `read_line` give from a place on
+unfoldable pub readScriptAll : ℕ → List ℕ → ℕ → List LedgerSaid
+readScriptAll zero text at = []
+readScriptAll (suc k) text at = onScriptRead (readScriptLineOf text at) (readScriptAll k text)

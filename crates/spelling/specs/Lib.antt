@@ -3,10 +3,13 @@ pub mod Answers
 pub mod Lines
 pub mod Stored
 pub mod Spelling
-pub mod Text
 pub mod Fields
 pub mod Reading
+pub mod Text
 pub mod Storing
 pub mod InTurn
+pub mod LedgerSpelling
 pub mod LedgerReading
 pub mod LedgerSteps
+pub mod Examples
+pub mod LedgerExamples

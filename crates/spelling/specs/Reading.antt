@@ -2,7 +2,7 @@
 -- of proofs/Theorems.antt a line reads to a step exactly when it is the step's spelling, and reading gives the lines of `linesOf`.
 use Prim.Native.Nat.{ℕ, zero, suc, _+_, _-_, _^_}
 use mathlib.Core.Bool.{cond}
-use mathlib.Core.List.{List, map}
+use mathlib.Core.List.{List}
 use lib.Dec.{leb, ltb, eqb}
 use lib.ListN.{length, getD, drop}
 use Rattle.kinds.specs.declared.BenchNo.{BenchNo}
@@ -21,7 +21,6 @@ use Rattle.spelling.specs.declared.VerbFound.the-variants.{Known, Unknow
 use Rattle.spelling.specs.declared.StepFound.{StepFound}
 use Rattle.spelling.specs.declared.StepFound.the-variants.{Spelled, Unspelled}
 use Rattle.spelling.specs.Numbers.{ascii}
-use Rattle.spelling.specs.Lines.{linesOf}
 use Rattle.spelling.specs.Fields.{isPrefix, lineAt, on, fieldAt, nextAt, numberAt}
 
 -- ---- worlds
@@ -115,9 +114,6 @@ whole line (Spelled s end) = cond (leb (length line) end) (Does s) Malformed
 -- what a line says, its byte 10 left out
 unfoldable pub saidOf : ℕ → List ℕ → Said
 saidOf limit line = whole line (stepAt limit line 0)
-
-unfoldable pub readText : ℕ → List ℕ → List Said
-readText limit text = map (saidOf limit) (linesOf text)
 
 -- ---- a text read line by line
 

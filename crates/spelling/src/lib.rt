@@ -74,6 +74,27 @@ pub enum LedgerSaid {
     Malformed,
 }
 
+// What stands at a place of a script: what a line says, with the place of the next, or the script's end.
+pub enum LedgerRead {
+    Next(LedgerSaid, usize),
+    End,
+}
+
+// The steps that a line of a script can name.
+pub enum LedgerVerb {
+    Join,
+    Sweep,
+    Close,
+    End,
+    HandOut,
+}
+
+// A step's name with the key of its first number, and the place behind them, or none.
+pub enum LedgerVerbFound {
+    Known(LedgerVerb, usize),
+    Unknown,
+}
+
 // A step of a script and the place behind it, or none.
 pub enum LedgerFound {
     Spelled(LedgerStep, usize),

@@ -9,7 +9,7 @@ use crate::bytes;
 use spelling::Found;
 
 // The value of the digit at a place, or 10.
-fn digit_at(text: &[u8], at: usize) -> u32
+pub fn digit_at(text: &[u8], at: usize) -> u32
     ensures { λ r. ⌜ r ≡ digitAt (now (text .entry)) at ⌝ }
 {
     if text.len() <= at {

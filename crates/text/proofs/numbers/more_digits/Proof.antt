@@ -6,7 +6,7 @@ use Rattle.text.proofs.numbers.more_digits.Statement.{statement}
 use Rattle.text.proofs.numbers.more_digits.Tie as tie
 
 abbrev Inv-loop : tie.InvT-loop
-Inv-loop text from first room at₀ v₀ left₀ at v left = Counted room text from first at v left
+Inv-loop text from first room at₀ v₀ left₀ at v left = Counted 5 room text from first at v left
 
 abbrev μ-loop : tie.MeasureT-loop
 μ-loop text from first room at₀ v₀ left₀ at v left = left
