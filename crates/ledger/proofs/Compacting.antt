@@ -5,7 +5,7 @@ use mathlib.Core.Bool.{Bool, true, false, not}
 use mathlib.Core.List.{List, [], _∷_, _++_, map}
 use native.Mathlib.Numerals.{add-one}
 use native.Mathlib.Omega.{arith}
-use lib.ListN.{length, take, drop, getD, set, length-append, length-map, length-set, take-append-drop}
+use lib.ListN.{length, take, drop, getD, set, length-append, length-map, length-take, length-set, take-append-drop}
 use lib.Seq.{take-suc, length-take-le}
 use lib.Dec.{eqb, leb}
 use borrow.Author.Tests.{eq-eqb, ne-eqb}
@@ -17,7 +17,7 @@ use Rattle.ledger.specs.declared.words.Part.the-variants.{Of, From}
 use Rattle.kinds.specs.declared.BenchNo.{BenchNo}
 use Rattle.kinds.specs.declared.SlotNo.{SlotNo}
 use Rattle.ledger.specs.Words.{isOf, TakesOut}
-use Rattle.book.proofs.Only.{snoc-yes, snoc-no, only-map, only-rest}
+use Rattle.book.proofs.Only.{snoc-yes, snoc-no, only-map, only-rest, only-length}
 use Rattle.ledger.proofs.Laid.{laid-more, laid-past, laid-front, laid-rest}
 
 -- ---- whether a word is in a part
@@ -104,3 +104,8 @@ module _ (p : Sweep → Bool) (old : List ℕ) (i : ℕ) (words : List ℕ) (k :
         held-is = ap (λ (l : List ℕ). map sweepIs (take k l)) (inv .words-are) ∙ ap (map sweepIs) (laid-front (staying p old i) old k (sym (inv .count-is))) ∙ sym m;
         past-is = ap (drop k) (inv .words-are) ∙ laid-rest (staying p old i) old k (sym (inv .count-is));
       }
+
+-- no more are left than were held
+pub left-few : (p : Sweep → Bool) (k : ℕ) (words : List ℕ) (r : ℕ) (words′ : List ℕ) → TakesOut p k words r words′ → r ≤ k
+unfolding heldIn
+left-few p k words r words′ y = omega (arith, y .count-is, only-length (λ w. not (p w)) (heldIn k words), length-map (take k words) sweepIs, length-take k words)

@@ -5,33 +5,31 @@ use mathlib.Core.List.{List, [], _∷_, _++_, map}
 use native.Mathlib.Omega.{arith}
 use lib.ListN.{take, drop, take-append-drop}
 use Rattle.common.proofs.Tests.{clash}
-use Rattle.book.specs.Book.{Sweep}
-use Rattle.ledger.specs.Seen.{sweepIs, heldIn}
+use Rattle.book.specs.Book.{lastSlot, Sweep}
+use Rattle.ledger.specs.Seen.{senderUnit, slotUnit, sweepIs, heldIn}
 
-pub packed : (s o t : ℕ) → o ≤ 65534 → t < 4294967296
-    → _≡_ {A = Sweep} (sweepIs (s * 281474976710656 + o * 4294967296 + t)) (record { sender = s; slot = o; tag = t })
+pub packed : (s o t : ℕ) → o ≤ lastSlot → t < slotUnit → _≡_ {A = Sweep} (sweepIs (s * senderUnit + o * slotUnit + t)) (record { sender = s; slot = o; tag = t })
 packed s o t h g =
-    let a : (s * 281474976710656 + o * 4294967296 + t) / 281474976710656 ≡ s = omega arith in
-    let d : (s * 281474976710656 + o * 4294967296 + t) / 4294967296 ≡ s * 65536 + o = omega arith in
-    let b : (s * 281474976710656 + o * 4294967296 + t) / 4294967296 % 65536 ≡ o = rw d (omega arith) in
-    let c : (s * 281474976710656 + o * 4294967296 + t) % 4294967296 ≡ t = omega arith in
+    let a : (s * senderUnit + o * slotUnit + t) / senderUnit ≡ s = omega arith in
+    let d : (s * senderUnit + o * slotUnit + t) % senderUnit ≡ o * slotUnit + t = omega arith in
+    let b : (s * senderUnit + o * slotUnit + t) % senderUnit / slotUnit ≡ o = rw d (omega arith) in
+    let c : (s * senderUnit + o * slotUnit + t) % slotUnit ≡ t = omega arith in
     λ i. record { sender = a i; slot = b i; tag = c i }
 
 -- a word is its three parts. Each step stands by itself: omega stops where it has all of them at once
-parts-16 : (a b : ℕ) → a / 65536 ≡ b / 65536 → a % 65536 ≡ b % 65536 → a ≡ b
-parts-16 a b d m = omega arith
+parts-sender : (a b : ℕ) → a / senderUnit ≡ b / senderUnit → a % senderUnit ≡ b % senderUnit → a ≡ b
+parts-sender a b d m = omega arith
 
-parts-32 : (a b : ℕ) → a / 4294967296 ≡ b / 4294967296 → a % 4294967296 ≡ b % 4294967296 → a ≡ b
-parts-32 a b d m = omega arith
+parts-slot : (a b : ℕ) → a / slotUnit ≡ b / slotUnit → a % slotUnit ≡ b % slotUnit → a ≡ b
+parts-slot a b d m = omega arith
 
-div-div : (a : ℕ) → a / 4294967296 / 65536 ≡ a / 281474976710656
-div-div a = omega arith
+rest-rest : (a : ℕ) → a % senderUnit % slotUnit ≡ a % slotUnit
+rest-rest a = omega arith
 
 pub same-word : (a b : ℕ) → sweepIs a ≡ sweepIs b → a ≡ b
 same-word a b e =
-    parts-32 a b
-    (parts-16 (a / 4294967296) (b / 4294967296) (div-div a ∙ ap (λ (x : Sweep). x .sender) e ∙ sym (div-div b)) (ap (λ (x : Sweep). x .slot) e))
-    (ap (λ (x : Sweep). x .tag) e)
+    parts-sender a b (ap (λ (x : Sweep). x .sender) e)
+    (parts-slot (a % senderUnit) (b % senderUnit) (ap (λ (x : Sweep). x .slot) e) (rest-rest a ∙ ap (λ (x : Sweep). x .tag) e ∙ sym (rest-rest b)))
 
 same-list : (xs ys : List ℕ) → map sweepIs xs ≡ map sweepIs ys → xs ≡ ys
 same-list [] [] e = refl

@@ -1,4 +1,4 @@
--- What the cursor's step returns: one slot further, with `left` sweeps held.
+-- What the step of a cursor returns: one slot further, with `left` sweeps held.
 use Prim.Native.Nat.{ℕ, _+_}
 use Rattle.ledger.specs.declared.Cursor.{Cursor}
 

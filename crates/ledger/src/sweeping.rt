@@ -1,109 +1,139 @@
-// The steps that change what is held, but for a hand-out: sweep and end. Each works on the room as a slice, whose length is known there.
+// The steps that change what is held, but for a hand-out: sweep and end. Each works on the room as a slice, whose length is known there,
+// and asks first whether the number is a sender's; a sender's answer then goes by its row.
 ghost use mathlib.Core.Path.{_≡_};
+ghost use mathlib.Core.Bool.{true};
 ghost use Prim.Native.Nat.{ℕ, _≤_, _<_};
 ghost use lib.ListN.{length};
 ghost use lib.Dec.{ltb};
-ghost use Rattle.book.specs.Book.{Book, sweep, end, step, openSlot};
+ghost use Rattle.common.specs.Benches.{isBench};
+ghost use Rattle.book.specs.Book.{lastSlot, Book, sweep, end, step, openSlot};
+ghost use Rattle.kinds.specs.Sizes.{benchesOf};
 ghost use Rattle.senders.specs.Rows.{rowIs};
+ghost use Rattle.ledger.specs.Seen.{roomWords, lending};
 ghost use Rattle.ledger.specs.Promises.{Tells};
-ghost use Rattle.ledger.specs.Words.{Knows};
-use crate::Ledger;
-use crate::Seat;
-use crate::Told;
-use crate::rows;
+use crate::CursorWords;
+use crate::HELD;
+use crate::JOINED;
+use crate::LAST_SLOT;
+use crate::NEXT;
+use crate::ROOM;
+use crate::RoomWords;
+use crate::RowWords;
 use crate::words;
 use kinds::AnswerNo;
 use kinds::BenchNo;
+use kinds::Size;
 use kinds::SlotNo;
 use senders::Row;
 use sets::is_bench;
 use sets::place;
 
 // A sweep is held under the sender's open slot.
-pub fn sweep(ledger: Ledger, room: &mut [u64; 1024], sender: BenchNo, tag: u32) -> Told
-    ensures { λ r. ⌜ Tells ledger (now (room .entry)) (sweep (sender .0) tag) r (now (room .exit)) ⌝ }
+pub fn sweep(
+    cursor: &mut CursorWords,
+    rows: &RowWords,
+    room: &mut RoomWords,
+    sender: BenchNo,
+    tag: u32,
+    size: Size,
+) -> AnswerNo
+    ensures { λ r. ⌜ Tells (benchesOf size) (lending (now (cursor .entry)) (now (rows .entry)) (now (room .entry))) (sweep (sender .0) tag) r (lending (now (cursor .exit)) (now (rows .entry)) (now (room .exit))) ⌝ }
 {
-    sweep_in(ledger, &mut room[..], sender, tag)
+    sweep_in(cursor, rows, &mut room[..], sender, tag, size)
 }
 
-fn sweep_in(ledger: Ledger, room: &mut [u64], sender: BenchNo, tag: u32) -> Told
-    requires { ⌜ length (now room) ≡ 1024 ⌝ }
-    ensures { λ r. ⌜ Tells ledger (now (room .entry)) (sweep (sender .0) tag) r (now (room .exit)) ⌝ }
+fn sweep_in(
+    cursor: &mut CursorWords,
+    rows: &RowWords,
+    room: &mut [u64],
+    sender: BenchNo,
+    tag: u32,
+    size: Size,
+) -> AnswerNo
+    requires { ⌜ length (now room) ≡ roomWords ⌝ }
+    ensures { λ r. ⌜ Tells (benchesOf size) (lending (now (cursor .entry)) (now (rows .entry)) (now (room .entry))) (sweep (sender .0) tag) r (lending (now (cursor .exit)) (now (rows .entry)) (now (room .exit))) ⌝ }
 {
-    let i = place(sender);
-    let row = rows::row_at(ledger, i);
-    let held = ledger.cursor.held;
-    let number = sweep_number(sender, row, held);
-    let mut after = ledger;
-    if number == 0 {
-        let open = senders::open_slot(row);
-        room[held] = words::word(sender, open, tag);
-        let more = held + 1;
-        after.cursor.held = more;
-    }
-    Told {
-        number: number,
-        ledger: after,
-    }
-}
-
-// The answer to a sweep by what is known of the sender and how many are held.
-fn sweep_number(sender: BenchNo, row: Row, held: usize) -> AnswerNo
-    ensures { λ r. ⌜ ((b : Book) (tag : ℕ) → Knows b (sender .0) (rowIs row) → ltb (length (b .held)) 1024 ≡ ltb held 1024 → r ≡ step 16 b (sweep (sender .0) tag) .number) × (r ≡ 0 → (sender .0 ≤ 16) × (openSlot (rowIs row) ≤ 65534) × (held < 1024)) ⌝ }
-{
-    if !is_bench(sender) {
+    if !is_bench(sender, size) {
         return 1;
     }
+    let joined = cursor[JOINED];
+    let row = senders::row_at(joined, rows, place(sender));
+    let next = cursor[NEXT];
+    let held = cursor[HELD];
+    let number = sweep_number(row, held);
+    if number == 0 {
+        let open = senders::open_slot(row);
+        let at = words::wide(held);
+        room[at] = words::word(sender, open, tag);
+        *cursor = [next, held + 1, joined];
+    }
+    number
+}
+
+// The answer to a sender's sweep by what is known of it and how many are held.
+fn sweep_number(row: Row, held: u32) -> AnswerNo
+    ensures { λ r. ⌜ ((n : ℕ) (b : Book) (s tag : ℕ) → isBench n s ≡ true → b .rows s ≡ rowIs row → ltb (length (b .held)) roomWords ≡ ltb held roomWords → r ≡ step n b (sweep s tag) .number) × (r ≡ 0 → (openSlot (rowIs row) ≤ lastSlot) × (held < roomWords)) ⌝ }
+{
     if !senders::is_open(row) {
         return 15;
     }
     let open = senders::open_slot(row);
-    if 65534 < open.0 {
+    if LAST_SLOT < open.0 {
         return 17;
     }
-    if 1024 <= held {
+    if (ROOM as u32) <= held {
         return 25;
     }
     0
 }
 
 // The sender counts in no slot from `slot` on, and its sweeps held for such slots are dropped: their words are used again.
-pub fn end(ledger: Ledger, room: &mut [u64; 1024], sender: BenchNo, slot: SlotNo) -> Told
-    ensures { λ r. ⌜ Tells ledger (now (room .entry)) (end (sender .0) (slot .0)) r (now (room .exit)) ⌝ }
+pub fn end(
+    cursor: &mut CursorWords,
+    rows: &mut RowWords,
+    room: &mut RoomWords,
+    sender: BenchNo,
+    slot: SlotNo,
+    size: Size,
+) -> AnswerNo
+    ensures { λ r. ⌜ Tells (benchesOf size) (lending (now (cursor .entry)) (now (rows .entry)) (now (room .entry))) (end (sender .0) (slot .0)) r (lending (now (cursor .exit)) (now (rows .exit)) (now (room .exit))) ⌝ }
 {
-    end_in(ledger, &mut room[..], sender, slot)
+    end_in(cursor, rows, &mut room[..], sender, slot, size)
 }
 
-fn end_in(ledger: Ledger, room: &mut [u64], sender: BenchNo, slot: SlotNo) -> Told
-    requires { ⌜ length (now room) ≡ 1024 ⌝ }
-    ensures { λ r. ⌜ Tells ledger (now (room .entry)) (end (sender .0) (slot .0)) r (now (room .exit)) ⌝ }
+fn end_in(
+    cursor: &mut CursorWords,
+    rows: &mut RowWords,
+    room: &mut [u64],
+    sender: BenchNo,
+    slot: SlotNo,
+    size: Size,
+) -> AnswerNo
+    requires { ⌜ length (now room) ≡ roomWords ⌝ }
+    ensures { λ r. ⌜ Tells (benchesOf size) (lending (now (cursor .entry)) (now (rows .entry)) (now (room .entry))) (end (sender .0) (slot .0)) r (lending (now (cursor .exit)) (now (rows .exit)) (now (room .exit))) ⌝ }
 {
-    let mut after = ledger;
-    let i = place(sender);
-    let seat = after.seats[i];
-    let known = seat.row;
-    let next = after.cursor.next;
-    let number = end_number(sender, known, next, slot);
-    if number == 0 {
-        let held = words::lesser(after.cursor.held, 1024);
-        let left = words::take_out(room, 0, held, words::Part::From(sender, slot));
-        let row = senders::ended(known, slot);
-        after.seats[i] = Seat { row: row };
-        after.cursor.held = left;
-    }
-    Told {
-        number: number,
-        ledger: after,
-    }
-}
-
-// The answer to an end by what is known of the sender.
-fn end_number(sender: BenchNo, row: Row, next: SlotNo, slot: SlotNo) -> AnswerNo
-    ensures { λ r. ⌜ ((b : Book) → b .next ≡ next .0 → Knows b (sender .0) (rowIs row) → r ≡ step 16 b (end (sender .0) (slot .0)) .number) ⌝ }
-{
-    if !is_bench(sender) {
+    if !is_bench(sender, size) {
         return 1;
     }
+    let i = place(sender);
+    let joined = cursor[JOINED];
+    let known = senders::row_at(joined, &*rows, i);
+    let next = cursor[NEXT];
+    let number = end_number(known, SlotNo(next), slot);
+    if number == 0 {
+        let held = words::count(cursor[HELD]);
+        let left = words::take_out(room, 0, held, words::Part::From(sender, slot));
+        let row = senders::ended(known, slot);
+        rows[i] = senders::words_of(row);
+        *cursor = [next, left as u32, joined];
+    }
+    number
+}
+
+// The answer to a sender's end by what is known of it.
+fn end_number(row: Row, next: SlotNo, slot: SlotNo) -> AnswerNo
+    ensures { λ r. ⌜ ((n : ℕ) (b : Book) (s : ℕ) → isBench n s ≡ true → b .rows s ≡ rowIs row → b .next ≡ next .0 → r ≡ step n b (end s (slot .0)) .number) ⌝ }
+{
     if !senders::has_joined(row) {
         return 15;
     }

@@ -2,107 +2,127 @@
 use Prim.Native.Nat.{ℕ, suc, _+_, _-_, _≤_, _<_}
 use native.Mathlib.Omega.{arith}
 use native.Mathlib.Nat.{add-zero, zero-add}
-use mathlib.Core.Bool.{false}
 use mathlib.Core.List.{List, [], _∷_, _++_, append-assoc, append-nil}
-use mathlib.Core.Logic.{⊎-elim}
 use mathlib.Core.Path.{_≡_, refl, sym, ap, _∙_}
-use lib.ListN.{length, take, drop, length-append, length-drop, drop-of-length-le}
+use lib.Dec.{ltb}
+use lib.ListN.{length, take, drop, length-append, drop-of-length-le}
 use lib.Seq.{take-at, length-take-le}
-use borrow.Author.Tests.{lt-ltb, le-ltb}
+use borrow.Author.Tests.{ltb-true, ltb-false}
+use Rattle.common.proofs.Tests.{clash, split}
+use Rattle.kinds.specs.declared.Size.{Size}
+use Rattle.kinds.specs.Sizes.{benchesOf}
+use Rattle.book.specs.Book.{mostHeld, Book, newBook, answer}
 use Rattle.spelling.specs.Stored.{Stored}
+use Rattle.spelling.specs.Answers.{totals, refusalOf}
 use Rattle.spelling.specs.Lines.{linesOf}
-use Rattle.spelling.specs.Fields.{lineLength, lineAt, nextFrom, nextAt}
-use Rattle.spelling.proofs.Places.{le-or-lt}
-use Rattle.spelling.proofs.Lines.{length-within}
-use Rattle.spelling.proofs.TextTrip.{lines-at}
-use Rattle.spelling.proofs.Stores.{Left, left-start, left-step, left-end, left-room}
-use Rattle.ledger.specs.declared.Ledger.{Ledger}
-use Rattle.book.specs.Book.{Book, newBook, Answer, answer, step}
-use Rattle.ledger.specs.Seen.{rowsOf, bookOf}
-use Rattle.ledger.specs.Promises.{laid, Begins}
-use Rattle.book.proofs.Kept.{Kept, kept-new, kept-few}
-use Rattle.spelling.specs.declared.LedgerStep.{LedgerStep}
+use Rattle.spelling.specs.Fields.{lineAt, nextAt}
 use Rattle.spelling.specs.declared.LedgerSaid.{LedgerSaid}
 use Rattle.spelling.specs.declared.LedgerSaid.the-variants.{Does, Malformed}
-use Rattle.ledger_text.specs.declared.Played.{Played}
-use Rattle.spelling.specs.LedgerReading.{ledgerSaidOf}
+use Rattle.spelling.specs.declared.LedgerRead.the-variants.{Next, End}
+use Rattle.spelling.specs.LedgerReading.{ledgerSaidOf, readScript, readScriptLineOf}
 use Rattle.spelling.specs.LedgerSteps.{stepIs}
-use Rattle.ledger_text.specs.Playing.{Plays}
-use Rattle.reports.specs.LedgerReport.{readScript, ledgerAnswerTo, bookAfter, handsOut, ledgerLine, ledgerLines, senderLines, cursorLine, ledgerRefused, lastLines, ledgerReportFor, ledgerReportOf}
-use Rattle.spelling.specs.Answers.{totals, refusalOf}
-use Rattle.ledger_report.specs.Parts.{seenLines}
+use Rattle.spelling.proofs.TextTrip.{lines-at, next-above}
+use Rattle.spelling.proofs.Stores.{Left, left-start, left-step, left-end, left-room}
 use Rattle.spelling.proofs.Answers.{refusal-one}
-use Rattle.reports.proofs.Tags.{tags-few}
-use Rattle.reports.proofs.LedgerLengths.{kept-line, lineFor}
-use Rattle.ledger_report.proofs.Steps.{count-held}
+use Rattle.spelling.proofs.LedgerLines.{few-tags}
+use Rattle.ledger.specs.Seen.{Lent, lending, nextBy, bookOf}
+use Rattle.ledger.specs.Promises.{laid, Begins}
+use Rattle.ledger.proofs.Made.{Made, made-new, made-step}
+use Rattle.reports.specs.LedgerReport.{ledgerAnswerTo, bookAfter, ledgerLine, ledgerLines, senderLines, cursorLine, ledgerRefused, lastLines, ledgerReportFor, ledgerReportOf}
+use Rattle.reports.proofs.LedgerLengths.{lineFor}
+use Rattle.ledger_report.specs.declared.steps.Played.{Played}
+use Rattle.ledger_report.specs.Parts.{seenRows, seenLines}
+use Rattle.ledger_report.specs.Playing.{LineTells, Plays}
 
 -- ---- the line at a place, and the others
 
-module _ (text : List ℕ) (at : ℕ) (h : at < length text) {end : ℕ} (e : end ≡ at + lineLength (drop at text)) where
-  pub end-above : at ≤ end
-  end-above = omega arith
+-- the line y stands at a place, and the next begins at `behind`
+record Reads (text : List ℕ) (at : ℕ) (y : LedgerSaid) (behind : ℕ) : Type 0 where
+  pub script : readScript (drop at text) ≡ y ∷ readScript (drop behind text)
+  pub above : at < behind
+  pub within : behind ≤ length text
 
-  pub end-within : end ≤ length text
-  end-within = omega (arith, length-within (drop at text), length-drop at text)
+module _ (text : List ℕ) (at : ℕ) where
+  read-line-reads : (y : LedgerSaid) (behind : ℕ) → readScriptLineOf text at ≡ Next y behind → Reads text at y behind
+  unfolding readScriptLineOf readScript
+  read-line-reads y behind e = split (ltb at (length text))
+      (λ h.
+      let u : Next (ledgerSaidOf (lineAt text at)) (nextAt text at) ≡ Next y behind = sym (rw h refl) ∙ e in
+      let i = ltb-true at (length text) h in
+      let p : ledgerSaidOf (lineAt text at) ≡ y = cc in
+      let q : nextAt text at ≡ behind = cc in
+      record {
+        script = rw (lines-at text at i, p, q) refl;
+        above = omega (arith, next-above text at i);
+        within = omega (arith, next-above text at i);
+      })
+      (λ h. clash (let u : End ≡ Next y behind = sym (rw h refl) ∙ e in cc))
 
-  next-drop : drop (nextAt text at) text ≡ drop (end + 1) text
-  unfolding nextAt nextFrom
-  next-drop =
-      ⊎-elim
-      (λ (out : length text ≤ end). rw (← e, le-ltb end (length text) out) (drop-of-length-le text out ∙ sym (drop-of-length-le text {i = end + 1} (omega arith))))
-      (λ (inn : end < length text). rw (← e, lt-ltb end (length text) inn) refl)
-      (le-or-lt (length text) end)
-
-  line-is : lineAt text at ≡ take (end - at) (drop at text)
-  unfolding lineAt
-  line-is = let n : lineLength (drop at text) ≡ end - at = omega arith in rw n refl
-
-  script-more : readScript (drop at text) ≡ ledgerSaidOf (take (end - at) (drop at text)) ∷ readScript (drop (end + 1) text)
-  unfolding readScript
-  script-more = rw (lines-at text at h, line-is, next-drop) refl
-
-script-none : (text : List ℕ) (at : ℕ) → length text ≤ at → readScript (drop at text) ≡ []
-unfolding readScript linesOf
-script-none text at h = rw (drop-of-length-le text h) refl
+  read-line-ends : readScriptLineOf text at ≡ End → readScript (drop at text) ≡ []
+  unfolding readScriptLineOf readScript linesOf
+  read-line-ends e = split (ltb at (length text))
+      (λ h. clash (let u : Next (ledgerSaidOf (lineAt text at)) (nextAt text at) ≡ End = sym (rw h refl) ∙ e in cc))
+      (λ h. rw (drop-of-length-le text (ltb-false at (length text) h)) refl)
 
 -- ---- the report from a line on: k lines were played, r of them refused
 
-abbrev refusal : Book → LedgerSaid → ℕ
-refusal b x = refusalOf (ledgerAnswerTo b x .number)
+abbrev refusal : Size → Book → LedgerSaid → ℕ
+refusal size b x = refusalOf (ledgerAnswerTo size b x .number)
 
-unfoldable pub restOf : ℕ → ℕ → Book → List LedgerSaid → List ℕ
-restOf k r b [] = lastLines b k r
-restOf k r b (x ∷ l) = lineFor (k + 1) b x ++ restOf (k + 1) (r + refusal b x) (ledgerAnswerTo b x .book) l
+unfoldable pub restOf : Size → ℕ → ℕ → Book → List LedgerSaid → List ℕ
+restOf size k r b [] = lastLines size b k r
+restOf size k r b (x ∷ l) = lineFor size (k + 1) b x ++ restOf size (k + 1) (r + refusal size b x) (ledgerAnswerTo size b x .book) l
 
-rest-is : (k r : ℕ) (b : Book) (l : List LedgerSaid) → restOf k r b l ≡ ledgerLines (suc k) b l ++ lastLines (bookAfter b l) (k + length l) (r + ledgerRefused b l)
+rest-is : (size : Size) (k r : ℕ) (b : Book) (l : List LedgerSaid) → restOf size k r b l ≡ ledgerLines size (suc k) b l ++ lastLines size (bookAfter size b l) (k + length l) (r + ledgerRefused size b l)
 unfolding restOf ledgerLines bookAfter ledgerRefused
-rest-is k r b [] = rw (add-zero, add-zero) refl
-rest-is k r b (x ∷ l) =
-    let c = ledgerAnswerTo b x .book in
+rest-is size k r b [] = rw (add-zero, add-zero) refl
+rest-is size k r b (x ∷ l) =
+    let c = ledgerAnswerTo size b x .book in
     let n : k + 1 + length l ≡ k + suc (length l) = omega arith in
-    let m : r + refusal b x + ledgerRefused c l ≡ r + (refusal b x + ledgerRefused c l) = omega arith in
+    let m : r + refusal size b x + ledgerRefused size c l ≡ r + (refusal size b x + ledgerRefused size c l) = omega arith in
     let s : k + 1 ≡ suc k = omega arith in
-    ap (λ (z : List ℕ). lineFor (k + 1) b x ++ z) (rest-is (k + 1) (r + refusal b x) c l)
-    ∙ rw (n, m, s) (sym (append-assoc (lineFor (suc k) b x) (ledgerLines (suc (suc k)) c l) _))
+    ap (λ (z : List ℕ). lineFor size (k + 1) b x ++ z) (rest-is size (k + 1) (r + refusal size b x) c l)
+    ∙ rw (n, m, s) (sym (append-assoc (lineFor size (suc k) b x) (ledgerLines size (suc (suc k)) c l) _))
 
-report-rest : (text : List ℕ) → ledgerReportOf text ≡ restOf 0 0 (newBook 0) (readScript text)
+report-rest : (size : Size) (text : List ℕ) → ledgerReportOf size text ≡ restOf size 0 0 (newBook 0) (readScript text)
 unfolding ledgerReportOf ledgerReportFor
-report-rest text = sym (rest-is 0 0 (newBook 0) (readScript text) ∙ rw (zero-add, zero-add) refl)
+report-rest size text = sym (rest-is size 0 0 (newBook 0) (readScript text) ∙ rw (zero-add, zero-add) refl)
 
--- ---- a step played
+-- ---- a line played
+
+module _ (size : Size) (x : Lent) where
+  number-told : (y : LedgerSaid) (r : ℕ) (x′ : Lent) → LineTells size x y r x′ → r ≡ ledgerAnswerTo size (bookOf x) y .number
+  unfolding LineTells ledgerAnswerTo answer
+  number-told (Does s) r x′ t = t .number-is
+  number-told Malformed r x′ t = t .0
+
+  book-told : (y : LedgerSaid) (r : ℕ) (x′ : Lent) → LineTells size x y r x′ → bookOf x′ ≡ ledgerAnswerTo size (bookOf x) y .book
+  unfolding LineTells ledgerAnswerTo answer
+  book-told (Does s) r x′ t = t .book-is
+  book-told Malformed r x′ t = ap bookOf (t .1)
+
+  made-told : (y : LedgerSaid) (r : ℕ) (x′ : Lent) → LineTells size x y r x′ → Made (benchesOf size) x → Made (benchesOf size) x′
+  unfolding LineTells
+  made-told (Does s) r x′ t m = made-step (benchesOf size) x (stepIs s) r x′ m t
+  made-told Malformed r x′ t m = rw (t .1) m
+
+  few-told : (y : LedgerSaid) → length (ledgerAnswerTo size (bookOf x) y .tags) ≤ mostHeld
+  unfolding ledgerAnswerTo answer
+  few-told (Does s) = few-tags (benchesOf size) (bookOf x) s
+  few-told Malformed = omega arith
 
 -- the tags of a hand-out stand at the buffer's front
 
-module _ (ledger : Ledger) (words tags : List ℕ) (s : LedgerStep) (r : Played) (words′ tags′ : List ℕ) (q : Plays ledger words tags s r words′ tags′) where
+module _ (size : Size) (x : Lent) (tags : List ℕ) (y : LedgerSaid) (r : Played) (x′ : Lent) (tags′ : List ℕ) (q : Plays size x tags y r x′ tags′) where
   abbrev given : List ℕ
-  given = step 16 (bookOf ledger words) (stepIs s) .tags
+  given = ledgerAnswerTo size (bookOf x) y .tags
 
   pub count-inside : r .count ≤ length tags′
   unfolding laid
   count-inside = omega (arith, q .count-is, ap length (q .out-is), length-append given (drop (length given) tags))
 
-  pub front-few : length (take (r .count) tags′) ≤ 1024
-  front-few = omega (arith, length-take-le (r .count) tags′ count-inside, q .count-is, tags-few (bookOf ledger words) s)
+  pub front-few : length (take (r .count) tags′) ≤ mostHeld
+  front-few = omega (arith, length-take-le (r .count) tags′ count-inside, q .count-is, few-told size x y)
 
   front-is : take (r .count) tags′ ≡ given
   unfolding laid
@@ -111,117 +131,76 @@ module _ (ledger : Ledger) (words tags : List ℕ) (s : LedgerStep) (r : Played)
 -- ---- the script, line by line
 
 -- the first `lines` lines, which stand before the place, are played, `refused` of them were refused, and their answers are stored up to `next`; the rest
--- of the report is that of the other lines, played on from the ledger. room₀ held what was there before
-pub record Playing (text room₀ : List ℕ) (ledger : Ledger) (words room : List ℕ) (at next lines refused : ℕ) : Type 0 where
-  pub within : at ≤ length text + 1
+-- of the report is that of the other lines, played on from the ledger in the words x. room₀ held what was there before
+pub record Playing (size : Size) (text room₀ : List ℕ) (x : Lent) (room : List ℕ) (at next lines refused : ℕ) : Type 0 where
+  pub within : at ≤ length text
   pub few : lines ≤ at
   pub fewer : refused ≤ lines
-  pub kept : Kept 16 (bookOf ledger words)
-  pub count : ledger .cursor .held ≡ length (bookOf ledger words .held)
-  pub left : Left room₀ 0 (ledgerReportOf text) room next (restOf lines refused (bookOf ledger words) (readScript (drop at text)))
+  pub made : Made (benchesOf size) x
+  pub left : Left room₀ 0 (ledgerReportOf size text) room next (restOf size lines refused (bookOf x) (readScript (drop at text)))
 
-module _ (text room₀ : List ℕ) where
-  pub playing-none : (ledger : Ledger) (words : List ℕ) → Begins 0 ledger → Playing text room₀ ledger words room₀ 0 0 0 0
-  unfolding newBook
-  playing-none ledger words p =
-      let b = p .book-is words in
+module _ (size : Size) (text room₀ : List ℕ) where
+  pub playing-none : (cursor : List ℕ) (rows : List (List ℕ)) (words : List ℕ) → Begins 0 cursor rows → Playing size text room₀ (lending cursor rows words) room₀ 0 0 0 0
+  playing-none cursor rows words p =
       record {
         within = omega arith;
         few = omega arith;
         fewer = omega arith;
-        kept = rw b (kept-new 16 0);
-        count = p .count-is ∙ sym (ap (λ (z : Book). length (z .held)) b);
-        left = rw (b, ← report-rest text) (left-start room₀ 0 (ledgerReportOf text));
+        made = made-new (benchesOf size) 0 cursor rows words p;
+        left = rw (p .book-is words, ← report-rest size text) (left-start room₀ 0 (ledgerReportOf size text));
       }
 
-  module _ (ledger : Ledger) (words room : List ℕ) (at next lines refused : ℕ) (p : Playing text room₀ ledger words room at next lines refused) where
-    -- the line x stands at the place and ends at `end`
-    module _ (h : at < length text) (end : ℕ) (e : end ≡ at + lineLength (drop at text)) (x : LedgerSaid) (ex : x ≡ ledgerSaidOf (take (end - at) (drop at text))) where
+  module _ (x : Lent) (room : List ℕ) (at next lines refused : ℕ) (p : Playing size text room₀ x room at next lines refused) where
+    -- the line y stands at the place, and the next begins at `behind`
+    module _ (y : LedgerSaid) (behind : ℕ) (e : readScriptLineOf text at ≡ Next y behind) where
       abbrev now : Book
-      now = bookOf ledger words
+      now = bookOf x
 
-      here : Left room₀ 0 (ledgerReportOf text) room next
-          (lineFor (lines + 1) now x ++ restOf (lines + 1) (refused + refusal now x) (ledgerAnswerTo now x .book) (readScript (drop (end + 1) text)))
+      here : Left room₀ 0 (ledgerReportOf size text) room next
+          (lineFor size (lines + 1) now y ++ restOf size (lines + 1) (refused + refusal size now y) (ledgerAnswerTo size now y .book) (readScript (drop behind text)))
       unfolding restOf
-      here = rw (script-more text at h e, ← ex) at (p .left)
+      here = rw (read-line-reads text at y behind e .script) at (p .left)
 
-      here-room : length (ledgerReportOf text) ≤ length room₀ → next + length (lineFor (lines + 1) now x) ≤ length room
-      here-room r = left-room (lineFor (lines + 1) now x) _ here (omega arith)
+      -- less of the text is left
+      pub playing-less : length text - behind < length text - at
+      playing-less = let d = read-line-reads text at y behind e in omega arith
 
       -- played on to a ledger that stands for the book after the line
-      here-more : (ledger′ : Ledger) (words′ : List ℕ) → bookOf ledger′ words′ ≡ ledgerAnswerTo now x .book
-          → ledger′ .cursor .held ≡ length (bookOf ledger′ words′ .held) → (n : ℕ) → n ≡ refusal now x → (room′ : List ℕ) (next′ : ℕ)
-          → Stored room next (lineFor (lines + 1) now x) next′ room′ → Playing text room₀ ledger′ words′ room′ (end + 1) next′ (lines + 1) (refused + n)
-      here-more ledger′ words′ b c n en room′ next′ s =
-          record {
-            within = omega (arith, end-within text at h e);
-            few = omega (arith, p .few, end-above text at h e);
-            fewer = omega (arith, p .fewer, refusal-one (ledgerAnswerTo now x .number) n en);
-            kept = rw b (kept-line now (p .kept) x);
-            count = c;
-            left = rw (b, en) (left-step _ here s);
-          }
+      module _ (tags : List ℕ) (r : Played) (x′ : Lent) (tags′ : List ℕ) (q : Plays size x tags y r x′ tags′) where
+        line-is : lineFor size (lines + 1) now y ≡ ledgerLine (lines + 1) (r .number) (r .handed) (take (r .count) tags′)
+        line-is = rw (q .handed-is, front-is size x tags y r x′ tags′ q, number-told size x y (r .number) x′ (q .tells)) refl
 
-      -- a malformed line
-      module _ (m : x ≡ Malformed) where
-        malformed-line : lineFor (lines + 1) now x ≡ ledgerLine (lines + 1) 20 false []
-        unfolding ledgerAnswerTo answer handsOut
-        malformed-line = rw m refl
+        pub playing-room : length (ledgerReportOf size text) ≤ length room₀ → next + length (ledgerLine (lines + 1) (r .number) (r .handed) (take (r .count) tags′)) ≤ length room
+        playing-room z = rw (← line-is) (left-room (lineFor size (lines + 1) now y) _ here (omega arith))
 
-        same-book : ledgerAnswerTo now x .book ≡ now
-        unfolding ledgerAnswerTo answer
-        same-book = rw m refl
-
-        counted : refusal now x ≡ 1
-        unfolding ledgerAnswerTo answer
-        counted = rw m refl
-
-        pub malformed-room : length (ledgerReportOf text) ≤ length room₀ → next + length (ledgerLine (lines + 1) 20 false []) ≤ length room
-        malformed-room r = rw malformed-line at (here-room r)
-
-        pub malformed-more : (room′ : List ℕ) (next′ : ℕ) → Stored room next (ledgerLine (lines + 1) 20 false []) next′ room′
-            → Playing text room₀ ledger words room′ (end + 1) next′ (lines + 1) (refused + 1)
-        malformed-more room′ next′ s = here-more ledger words (sym same-book) (p .count) 1 (sym counted) room′ next′ (rw malformed-line s)
-
-      -- a step
-      module _ (s : LedgerStep) (m : x ≡ Does s) (tags : List ℕ) (r : Played) (words′ tags′ : List ℕ) (q : Plays ledger words tags s r words′ tags′) where
-        does-line : lineFor (lines + 1) now x ≡ ledgerLine (lines + 1) (r .number) (r .handed) (take (r .count) tags′)
-        unfolding ledgerAnswerTo handsOut
-        does-line = rw (m, q .handed-is, front-is ledger words tags s r words′ tags′ q, q .tells .number-is) refl
-
-        does-answer : ledgerAnswerTo now x ≡ step 16 now (stepIs s)
-        unfolding ledgerAnswerTo
-        does-answer = rw m refl
-
-        pub does-room : length (ledgerReportOf text) ≤ length room₀ → next + length (ledgerLine (lines + 1) (r .number) (r .handed) (take (r .count) tags′)) ≤ length room
-        does-room z = rw does-line at (here-room z)
-
-        pub does-more : (n : ℕ) → n ≡ refusalOf (r .number) → (room′ : List ℕ) (next′ : ℕ)
-            → Stored room next (ledgerLine (lines + 1) (r .number) (r .handed) (take (r .count) tags′)) next′ room′
-            → Playing text room₀ (r .ledger) words′ room′ (end + 1) next′ (lines + 1) (refused + n)
-        does-more n en room′ next′ z =
-            here-more (r .ledger) words′
-            (q .tells .book-is ∙ sym (ap (λ (a : Answer). a .book) does-answer))
-            (count-held ledger words (stepIs s) _ words′ (q .tells) (p .count))
-            n (en ∙ ap refusalOf (q .tells .number-is ∙ sym (ap (λ (a : Answer). a .number) does-answer)))
-            room′ next′ (rw does-line z)
+        pub playing-more : (n : ℕ) → n ≡ refusalOf (r .number) → (room′ : List ℕ) (next′ : ℕ)
+            → Stored room next (ledgerLine (lines + 1) (r .number) (r .handed) (take (r .count) tags′)) next′ room′ → Playing size text room₀ x′ room′ behind next′ (lines + 1) (refused + n)
+        playing-more n en room′ next′ s =
+            let d = read-line-reads text at y behind e in
+            let told = q .tells in
+            let stored : Stored room next (lineFor size (lines + 1) now y) next′ room′ = rw line-is s in
+            let same : n ≡ refusal size now y = en ∙ ap refusalOf (number-told size x y (r .number) x′ told) in
+            record {
+              within = d .within;
+              few = omega (arith, p .few, d .above);
+              fewer = omega (arith, p .fewer, refusal-one (r .number) n en);
+              made = made-told size x y (r .number) x′ told (p .made);
+              left = rw (book-told size x y (r .number) x′ told, same) (left-step _ here stored);
+            }
 
     -- the end
-    module _ (h : length text ≤ at) where
-      last-is : restOf lines refused (bookOf ledger words) (readScript (drop at text)) ≡ seenLines ledger lines refused ++ []
+    module _ (h : readScriptLineOf text at ≡ End) where
+      last-is : restOf size lines refused (bookOf x) (readScript (drop at text)) ≡ seenLines (benchesOf size) (x .cursor) (x .rows) lines refused ++ []
       unfolding restOf lastLines seenLines bookOf
       last-is =
-          rw (script-none text at h, append-nil)
-          (ap (λ (n : ℕ). senderLines 16 (rowsOf (ledger .seats)) ++ (cursorLine (ledger .cursor .next .0) n ++ totals lines refused)) (sym (p .count)))
+          rw (read-line-ends text at h, append-nil)
+          (ap (λ (n : ℕ). senderLines (benchesOf size) (seenRows (x .cursor) (x .rows)) ++ (cursorLine (nextBy x) n ++ totals lines refused)) (sym (p .made .count-is)))
 
-      last : Left room₀ 0 (ledgerReportOf text) room next (seenLines ledger lines refused ++ [])
+      last : Left room₀ 0 (ledgerReportOf size text) room next (seenLines (benchesOf size) (x .cursor) (x .rows) lines refused ++ [])
       last = rw last-is at (p .left)
 
-      pub end-room : length (ledgerReportOf text) ≤ length room₀ → next + length (seenLines ledger lines refused) ≤ length room
-      end-room r = left-room (seenLines ledger lines refused) [] last (omega arith)
+      pub end-room : length (ledgerReportOf size text) ≤ length room₀ → next + length (seenLines (benchesOf size) (x .cursor) (x .rows) lines refused) ≤ length room
+      end-room r = left-room (seenLines (benchesOf size) (x .cursor) (x .rows) lines refused) [] last (omega arith)
 
-      pub playing-all : {room′ : List ℕ} {next′ : ℕ} → Stored room next (seenLines ledger lines refused) next′ room′ → Stored room₀ 0 (ledgerReportOf text) next′ room′
+      pub playing-all : {room′ : List ℕ} {next′ : ℕ} → Stored room next (seenLines (benchesOf size) (x .cursor) (x .rows) lines refused) next′ room′ → Stored room₀ 0 (ledgerReportOf size text) next′ room′
       playing-all s = left-end (left-step [] last s)
-
-    pub held-few : ledger .cursor .held ≤ 1024
-    held-few = omega (arith, p .count, kept-few 16 (bookOf ledger words) (p .kept))

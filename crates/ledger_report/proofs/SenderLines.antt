@@ -60,9 +60,9 @@ module _ (s : ℕ) (row : code.Row) (l : List ℕ) (at : ℕ) where
 
 -- ---- the lines stored, sender by sender
 
--- the lines of the first k senders are stored; room₀ held what was there before
-pub record Listed (room₀ : List ℕ) (at : ℕ) (rows : ℕ → Row) (room : List ℕ) (next k : ℕ) : Type 0 where
-  pub upto : k ≤ 16
+-- the lines of the first k senders of n are stored; room₀ held what was there before
+pub record Listed (n : ℕ) (room₀ : List ℕ) (at : ℕ) (rows : ℕ → Row) (room : List ℕ) (next k : ℕ) : Type 0 where
+  pub upto : k ≤ n
   pub stored : Stored room₀ at (senderLines k rows) next room
 
 lines-next : (rows : ℕ → Row) (k : ℕ) → senderLines (k + 1) rows ≡ senderLines k rows ++ senderLine (k + 1) (rows (k + 1))
@@ -77,22 +77,22 @@ lines-grow rows k (suc d) =
     let e : k + suc d ≡ suc (k + d) = omega arith in
     rw e (omega (arith, lines-grow rows k d, length-append (senderLines (k + d) rows) (senderLine (suc (k + d)) (rows (suc (k + d))))))
 
-module _ (room₀ : List ℕ) (at : ℕ) (rows : ℕ → Row) where
-  pub listed-none : Listed room₀ at rows room₀ at 0
+module _ (m : ℕ) (room₀ : List ℕ) (at : ℕ) (rows : ℕ → Row) where
+  pub listed-none : Listed m room₀ at rows room₀ at 0
   unfolding senderLines
   listed-none = record { upto = omega arith; stored = stored-nil room₀ at }
 
-  module _ (room : List ℕ) (next k : ℕ) (p : Listed room₀ at rows room next k) (h : k < 16) (row : code.Row) (e : rowIs row ≡ rows (k + 1)) where
-    pub listed-room : at + length (senderLines 16 rows) ≤ length room₀ → next + length (senderLine (k + 1) (rowIs row)) ≤ length room
-    listed-room r =
+  module _ (room : List ℕ) (next k : ℕ) (p : Listed m room₀ at rows room next k) (h : k < m) (row : code.Row) (e : rowIs row ≡ rows (k + 1)) where
+    pub listed-room : (n : ℕ) → m ≡ n → at + length (senderLines n rows) ≤ length room₀ → next + length (senderLine (k + 1) (rowIs row)) ≤ length room
+    listed-room n many r =
         let w = senderLine (k + 1) (rowIs row) in
-        let n : k + 1 + (15 - k) ≡ 16 = omega arith in
-        let g : length (senderLines (k + 1) rows) ≤ length (senderLines 16 rows) = rw n at (lines-grow rows (k + 1) (15 - k)) in
+        let all : k + 1 + (n - (k + 1)) ≡ n = omega arith in
+        let g : length (senderLines (k + 1) rows) ≤ length (senderLines n rows) = rw all at (lines-grow rows (k + 1) (n - (k + 1))) in
         let s : length (senderLines (k + 1) rows) ≡ length (senderLines k rows) + length w = rw (lines-next rows k, ← e, length-append) refl in
         omega (arith, p .stored .place, stored-length (p .stored))
 
-    pub listed-more : (room′ : List ℕ) (last : ℕ) → Stored room next (senderLine (k + 1) (rowIs row)) last room′ → Listed room₀ at rows room′ last (k + 1)
+    pub listed-more : (room′ : List ℕ) (last : ℕ) → Stored room next (senderLine (k + 1) (rowIs row)) last room′ → Listed m room₀ at rows room′ last (k + 1)
     listed-more room′ last s = record { upto = omega arith; stored = rw (lines-next, ← e) (stored-then (p .stored) s) }
 
-  pub listed-all : (room : List ℕ) (next k : ℕ) → Listed room₀ at rows room next k → 16 ≤ k → Stored room₀ at (senderLines 16 rows) next room
-  listed-all room next k p h = let e : k ≡ 16 = omega (arith, p .upto) in rw e at (p .stored)
+  pub listed-all : (room : List ℕ) (next k : ℕ) → Listed m room₀ at rows room next k → m ≤ k → (n : ℕ) → m ≡ n → Stored room₀ at (senderLines n rows) next room
+  listed-all room next k p h n many = let e : k ≡ n = omega (arith, p .upto) in rw e at (p .stored)

@@ -3,39 +3,41 @@ ghost use Prim.Native.Nat.{_≤_};
 ghost use lib.ListN.{length};
 ghost use Rattle.spelling.specs.Stored.{Stored};
 ghost use Rattle.reports.specs.LedgerReport.{ledgerReportOf};
+ghost use Rattle.reports.specs.Reported.{longest};
 use crate::answers::store_ledger_line;
 use crate::ending::store_end;
+use crate::steps::play_line;
+use kinds::PLACES;
+use kinds::Size;
 use kinds::SlotNo;
-use ledger_text::playing::play;
-use ledger_text::reading::read_line;
+use ledger::CURSOR_LENGTH;
+use ledger::ROOM;
+use ledger::ROW_LENGTH;
+use ledger_text::read_line;
 use room::totals::refusal;
-use spelling::LedgerSaid;
-use text::bytes::line_end;
+use spelling::LedgerRead;
 
 // Plays the script and stores its report at the room's front. Answers the place behind it.
-pub(crate) fn play_text(text: &[u8], room: &mut [u8]) -> usize
-    requires { ⌜ (length (now text) ≤ 65536) × (length (ledgerReportOf (now text)) ≤ length (now room)) ⌝ }
-    ensures { λ r. ⌜ Stored (now (room .entry)) 0 (ledgerReportOf (now (text .entry))) r (now (room .exit)) ⌝ }
+pub(crate) fn play_text(text: &[u8], room: &mut [u8], size: Size) -> usize
+    requires { ⌜ (length (now text) ≤ longest) × (length (ledgerReportOf size (now text)) ≤ length (now room)) ⌝ }
+    ensures { λ r. ⌜ Stored (now (room .entry)) 0 (ledgerReportOf size (now (text .entry))) r (now (room .exit)) ⌝ }
 {
-    let mut words = [0u64; 1024];
-    let mut tags = [0u32; 1024];
-    let mut ledger = ledger::new(SlotNo(0));
+    let mut cursor = [0u32; CURSOR_LENGTH];
+    let mut rows = [[0u32; ROW_LENGTH]; PLACES];
+    let mut words = [0u64; ROOM];
+    let mut tags = [0u32; ROOM];
+    ledger::clear(&mut cursor, &mut rows, SlotNo(0));
     let mut at = 0;
     let mut next = 0;
     let mut lines = 0;
     let mut refused = 0;
-    while at < text.len() {
-        let stop = line_end(text, at);
-        let line = read_line(&text[at..stop]);
-        at = stop + 1;
-        lines += 1;
-        let LedgerSaid::Does(step) = line else {
-            next = store_ledger_line(room, next, lines, 20, false, &tags[..0]);
-            refused += 1;
-            continue;
+    loop {
+        let LedgerRead::Next(line, behind) = read_line(text, at) else {
+            return store_end(room, next, &cursor, &rows, lines, refused, size);
         };
-        let played = play(ledger, &mut words, &mut tags, step);
-        ledger = played.ledger;
+        at = behind;
+        lines += 1;
+        let played = play_line(&mut cursor, &mut rows, &mut words, &mut tags, line, size);
         let count = played.count;
         refused += refusal(played.number);
         next = store_ledger_line(
@@ -47,5 +49,4 @@ pub(crate) fn play_text(text: &[u8], room: &mut [u8]) -> usize
             &tags[..count],
         );
     }
-    store_end(room, next, ledger, lines, refused)
 }

@@ -1,25 +1,36 @@
 // One line for each sender that has joined, in rising number: `sender=1 first=0 open=2 end=none`.
 ghost use Prim.Native.Nat.{_+_, _≤_};
 ghost use lib.ListN.{length};
+ghost use Rattle.kinds.specs.Sizes.{benchesOf};
 ghost use Rattle.spelling.specs.Stored.{Stored};
 ghost use Rattle.senders.specs.Rows.{rowIs};
-ghost use Rattle.ledger.specs.Seen.{rowsOf};
 ghost use Rattle.reports.specs.LedgerReport.{slotsText, senderLine, senderLines};
+ghost use Rattle.ledger_report.specs.Parts.{seenRows};
 use kinds::BenchNo;
-use ledger::Ledger;
+use kinds::Size;
+use ledger::CursorWords;
 use ledger::Row;
+use ledger::RowWords;
 use ledger::row_of;
 use room::bytes::put_bytes;
 use room::decimal::put_field;
+use sets::benches_of;
 
-pub(crate) fn store_senders(room: &mut [u8], at: usize, ledger: Ledger) -> usize
-    requires { ⌜ at + length (senderLines 16 (rowsOf (ledger .seats))) ≤ length (now room) ⌝ }
-    ensures { λ r. ⌜ Stored (now (room .entry)) at (senderLines 16 (rowsOf (ledger .seats))) r (now (room .exit)) ⌝ }
+pub(crate) fn store_senders(
+    room: &mut [u8],
+    at: usize,
+    cursor: &CursorWords,
+    rows: &RowWords,
+    size: Size,
+) -> usize
+    requires { ⌜ at + length (senderLines (benchesOf size) (seenRows (now cursor) (now rows))) ≤ length (now room) ⌝ }
+    ensures { λ r. ⌜ Stored (now (room .entry)) at (senderLines (benchesOf size) (seenRows (now (cursor .entry)) (now (rows .entry)))) r (now (room .exit)) ⌝ }
 {
+    let many = benches_of(size);
     let mut next = at;
-    for k in 0..16u32 {
+    for k in 0..many {
         let s = k + 1;
-        let row = row_of(ledger, BenchNo(s));
+        let row = row_of(cursor, rows, BenchNo(s));
         next = store_sender(room, next, s, row);
     }
     next

@@ -6,14 +6,17 @@ use ledger_report::report;
 use libc::STDERR_FILENO;
 use libc::STDIN_FILENO;
 use libc::STDOUT_FILENO;
+use reports::LONGEST;
 use reports::Reported;
 use room::totals::put_refusal;
 
-// The input has room for one byte more than a text may have, to see that it is too long.
+// One byte more than a text may have, to see that it is too long.
+const INPUT: usize = LONGEST + 1;
+
 fn main() {
-    let mut input = [0u8; 65537];
+    let mut input = [0u8; INPUT];
     let n = io::read_full(STDIN_FILENO, &mut input);
-    if n == 65537 || ended() {
+    if n == INPUT || ended() {
         play(&input[..n]);
     }
 }

@@ -1,10 +1,38 @@
-// What a ledger knows of a sender, by value: what its row says, and the row after an end.
+// What a ledger knows of a sender, by value and as three words: what its row says, and the row after a close and after an end. In table.rt
+// the rows of all senders, and the set of those that have joined.
 ghost use mathlib.Core.Path.{_≡_};
 ghost use mathlib.Core.Bool.{not, _||_};
+ghost use Prim.Native.Nat.{suc};
 ghost use lib.Dec.{ltb};
-ghost use Rattle.book.specs.Book.{ended, hasJoined, isOpen, firstSlot, openSlot, isMember};
+ghost use Rattle.book.specs.Book.{joined, ended, hasJoined, isOpen, firstSlot, openSlot, isMember};
 ghost use Rattle.senders.specs.Rows.{rowIs};
+ghost use Rattle.senders.specs.Words.{slotIn, rowIn, wordsOf};
+use kinds::PLACES;
 use kinds::SlotNo;
+
+mod table; // table.rt: the rows of all senders
+
+pub use table::may_go;
+pub use table::row_at;
+
+// The last slot that is ever handed out: `lastSlot` of `book`.
+pub const LAST_SLOT: u32 = 65534;
+
+// The words of the row of a sender that has joined: its first slot, its open slot, and its end + 1, or 0 where it has none.
+pub type SenderWords = [u32; ROW_LENGTH];
+
+pub const ROW_LENGTH: usize = 3;
+
+const FIRST: usize = 0;
+
+const OPEN: usize = 1;
+
+const END: usize = 2;
+
+const NO_END: u32 = 0;
+
+// Row i is sender i + 1, and says nothing where that has not joined.
+pub type RowWords = [SenderWords; PLACES];
 
 // Nothing; its first and its open slot; these and its end.
 pub enum Row {
@@ -18,6 +46,49 @@ pub enum Row {
         open: SlotNo,
         end: SlotNo,
     },
+}
+
+// The slot that a word is: none is past the one behind the last, so that an end + 1 is a word too.
+fn slot_in(w: u32) -> SlotNo
+    ensures { λ r. ⌜ r .0 ≡ slotIn w ⌝ }
+{
+    if LAST_SLOT < w {
+        return SlotNo(LAST_SLOT + 1);
+    }
+    SlotNo(w)
+}
+
+// The row that the words are, of a sender that has joined.
+pub fn row_in(words: SenderWords) -> Row
+    ensures { λ r. ⌜ rowIs r ≡ rowIn words ⌝ }
+{
+    let open = slot_in(words[OPEN]);
+    let end = words[END];
+    if end == NO_END {
+        return Row::Joined {
+            first: SlotNo(words[FIRST]),
+            open: open,
+        };
+    }
+    Row::Ended {
+        first: SlotNo(words[FIRST]),
+        open: open,
+        end: SlotNo(end - 1),
+    }
+}
+
+// The words of a row; a slot that it does not have is 0.
+pub fn words_of(row: Row) -> SenderWords
+    ensures { λ r. ⌜ r ≡ wordsOf (rowIs row) ⌝ }
+{
+    match row {
+        Row::Unknown => [0, 0, NO_END],
+        Row::Joined { first, open } => [first.0, open.0, NO_END],
+        Row::Ended { first, open, end } => {
+            let last = slot_in(end.0);
+            [first.0, open.0, last.0 + 1]
+        }
+    }
 }
 
 pub fn has_joined(row: Row) -> bool
@@ -106,6 +177,19 @@ pub fn lets_go(row: Row, n: SlotNo) -> bool
     }
     let open = open_slot(row);
     n.0 < open.0
+}
+
+// The row after a close: the next slot is open.
+pub fn closed(row: Row) -> Row
+    ensures { λ r. ⌜ rowIs r ≡ joined (firstSlot (rowIs row)) (suc (slotIn (openSlot (rowIs row)))) ⌝ }
+{
+    let first = first_slot(row);
+    let open = open_slot(row);
+    let shut = slot_in(open.0);
+    Row::Joined {
+        first: first,
+        open: SlotNo(shut.0 + 1),
+    }
 }
 
 // The row after an end at `slot`.

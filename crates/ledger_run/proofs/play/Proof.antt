@@ -9,6 +9,7 @@ use Rattle.spelling.proofs.Puts.{Put, put-inside}
 use Rattle.reports.specs.declared.Reported.{Reported}
 use Rattle.reports.specs.Reported.{Reports}
 use Rattle.reports.proofs.Theorems.{report-inside, room-length-kept}
+use Rattle.ledger_report.specs.Parts.{reportRoom}
 use borrow.Author.Needs.{needs}
 use Rattle.ledger_run.proofs.play.Statement.{statement}
 use Rattle.ledger_run.proofs.play.Tie as tie
@@ -16,7 +17,7 @@ use Rattle.ledger_run.proofs.play.Tie as tie
 end-inside : {l l′ : List ℕ} {next : ℕ} (w : List ℕ) → Put l 0 w next l′ → next ≤ length l′
 end-inside w p = put-inside w p (omega arith)
 
--- the room is as long as it was; stated of any length, since at 1,377,401 the array would be computed
+-- the room is as long as it was; stated of any length, since at its own, 1,377,401, the array would be computed
 still-long : (n : ℕ) {text report a : List ℕ} {r : Reported} → Reports text report (replicate n 0) r a → n ≡ length a
 still-long n p = sym (room-length-kept p ∙ length-replicate {0} {A = ℕ} n 0)
 
@@ -44,7 +45,7 @@ enum-known-number : tie.Need-enum-known-number
 enum-known-number c = search needs
 
 slice-aggregate-put-refusal : tie.Need-slice-aggregate-put-refusal
-slice-aggregate-put-refusal c = still-long 1377401 (c .before .before .before .before .report .ensures)
+slice-aggregate-put-refusal c = still-long reportRoom (c .before .before .before .before .report .ensures)
 
 put-refusal-requires : tie.Need-put-refusal-requires
 put-refusal-requires c κs = search needs

@@ -7,8 +7,11 @@ use Rattle.ledger_report.proofs.ending.store_end.Tie as tie
 store-senders-requires : tie.Need-store-senders-requires
 store-senders-requires c κs = search senders-room
 
-cast-held : tie.Need-cast-held
-cast-held c = search needs
+element-copy-out-store-cursor : tie.Need-element-copy-out-store-cursor
+element-copy-out-store-cursor c = search needs
+
+element-copy-out-store-cursor-2 : tie.Need-element-copy-out-store-cursor-2
+element-copy-out-store-cursor-2 c = search needs
 
 store-cursor-requires : tie.Need-store-cursor-requires
 store-cursor-requires c κs = search cursor-room
@@ -27,7 +30,8 @@ store-end-spec =
     tie.close
     (tie.spec
     store-senders-requires
-    cast-held
+    element-copy-out-store-cursor
+    element-copy-out-store-cursor-2
     store-cursor-requires
     put-totals-requires
     same-length

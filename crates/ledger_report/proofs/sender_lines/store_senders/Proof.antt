@@ -1,17 +1,20 @@
 -- `store_senders`: the lines of the senders so far are stored.
 use Prim.Native.Nat.{_-_}
 use Rattle.spelling.proofs.Stores.{stored-length}
-use Rattle.ledger.specs.Seen.{rowsOf}
+use Rattle.ledger_report.specs.Parts.{seenRows}
 use Rattle.ledger_report.proofs.SenderLines.{Listed, listed-none, listed-room, listed-more, listed-all}
 use borrow.Author.Needs.{needs}
 use Rattle.ledger_report.proofs.sender_lines.store_senders.Statement.{statement}
 use Rattle.ledger_report.proofs.sender_lines.store_senders.Tie as tie
 
 abbrev Inv-loop : tie.InvT-loop
-Inv-loop room₀ at ledger next₀ k₀ room next k = Listed room₀ at (rowsOf (ledger .seats)) room next k
+Inv-loop room₀ at cursor rows many next₀ k₀ room next k = Listed many room₀ at (seenRows cursor rows) room next k
 
 abbrev μ-loop : tie.MeasureT-loop
-μ-loop room₀ at ledger next₀ k₀ room next k = 16 - k
+μ-loop room₀ at cursor rows many next₀ k₀ room next k = many - k
+
+benches-of-requires : tie.Need-benches-of-requires Inv-loop μ-loop
+benches-of-requires c κs = search needs
 
 loop-holds : tie.Need-loop-holds Inv-loop μ-loop
 loop-holds c = search listed-none
@@ -46,6 +49,7 @@ store-senders-spec =
     (tie.spec
     Inv-loop
     μ-loop
+    benches-of-requires
     loop-holds
     add-s
     row-of-requires

@@ -1,0 +1,4 @@
+pub mod Words
+pub mod Seating
+pub mod Going
+pub mod Settled
