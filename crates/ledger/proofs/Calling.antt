@@ -5,7 +5,8 @@ use Prim.Native.Nat.{ℕ, zero, suc}
 use mathlib.Core.List.{List, [], _∷_, _++_}
 use native.Mathlib.Omega.{arith}
 use lib.ListN.{length}
-use Rattle.book.specs.Book.{Book, Step, join, sweep, close, end, handOut, answer, step}
+use Rattle.ledger.specs.declared.HandOut.{HandOut}
+use Rattle.book.specs.Book.{Step, handOut, answer, step}
 use Rattle.book.specs.Traffic.{bookFrom, answersFrom, tagsFrom}
 use Rattle.ledger.specs.Seen.{Lent, bookOf}
 use Rattle.ledger.specs.Promises.{Tells, Hands, handOutOf, laid}
@@ -29,7 +30,7 @@ unfolding writtenIn handOutOf
 written-is zero tags out f = laid-front tags out (length tags) refl
 written-is (suc k) tags out f = sym (f (λ e. absurd (omega arith)))
 
-hands-tags : (n : ℕ) (x : Lent) (out : List ℕ) (r : _) (y : Lent) (out′ : List ℕ) → Hands n x out r y out′ → writtenIn r out′ ≡ step n (bookOf x) (handOut (length out)) .tags
+hands-tags : (n : ℕ) (x : Lent) (out : List ℕ) (r : HandOut) (y : Lent) (out′ : List ℕ) → Hands n x out r y out′ → writtenIn r out′ ≡ step n (bookOf x) (handOut (length out)) .tags
 hands-tags n x out r y out′ p =
     let a = step n (bookOf x) (handOut (length out)) in
     rw (p .answer-is, p .out-is) (written-is (a .number) (a .tags) out (λ e. refused-same n (bookOf x) (handOut (length out)) e .1))
