@@ -99,7 +99,7 @@ STEP int turn(Run *r, unsigned bench) {
     return 0;
 }
 
-static uint64_t mix(uint64_t sum, uint64_t x) { return (sum * 3 + x) % 1000003; }
+static uint64_t mix(uint64_t sum, uint64_t x) { return (sum * 3 + x) % 1048576; }
 
 static uint64_t play(Run *r, uint32_t seed, uint64_t sum) {
     memset(r, 0, sizeof *r);
