@@ -1,6 +1,6 @@
 -- Laws of sizes: every size fits the tables. Assumes nothing.
 use mathlib.Core.Path.{_≡_, refl}
-use Prim.Native.Nat.{ℕ, _≤_}
+use Prim.Native.Nat.{_≤_}
 use native.Mathlib.Omega.{arith}
 use Rattle.kinds.specs.declared.Size.{Size}
 use Rattle.kinds.specs.declared.Size.the-variants.{Sixteen}

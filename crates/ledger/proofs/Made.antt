@@ -1,12 +1,11 @@
 -- Ledgers made from a new one by the code's steps: their book is kept, and their count is the number of sweeps held. Assumes nothing.
 use mathlib.Core.Path.{_≡_, refl, ap, sym, _∙_}
 use Prim.Native.Nat.{ℕ, _≤_}
-use mathlib.Core.Bool.{true, false, cond}
+use mathlib.Core.Bool.{cond}
 use mathlib.Core.List.{List}
 use native.Mathlib.Omega.{arith}
 use lib.ListN.{length, getD}
 use lib.Dec.{eqb}
-use Rattle.common.proofs.Tests.{clash, split}
 use Rattle.book.specs.Book.{Book, newBook, withRow, Step, join, sweep, close, end, handOut, Answer, answer, step}
 use Rattle.ledger.specs.Seen.{roomWords, Lent, lending, heldBy, bookOf}
 use Rattle.ledger.specs.Promises.{cursorOf, cursorAfter, Tells, Begins}

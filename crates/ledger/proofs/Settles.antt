@@ -1,6 +1,6 @@
 -- Two answers that the promise of a step allows are equal: the number, every word of the cursor, the rows and the room, and of a hand-out
 -- every place of the receiving buffer. Assumes nothing.
-use mathlib.Core.Path.{_≡_, refl, ap, sym, _∙_}
+use mathlib.Core.Path.{_≡_, ap, sym, _∙_}
 use Prim.Native.Nat.{ℕ}
 use mathlib.Core.Bool.{cond}
 use mathlib.Core.List.{List}

@@ -4,27 +4,22 @@ use native.Mathlib.Omega.{arith}
 use native.Mathlib.Nat.{add-zero, zero-add}
 use mathlib.Core.List.{List, [], _∷_, _++_, append-assoc, append-nil}
 use mathlib.Core.Path.{_≡_, refl, sym, ap, _∙_}
-use lib.Dec.{ltb}
-use lib.ListN.{length, take, drop, length-append, drop-of-length-le}
+use lib.ListN.{length, take, drop, length-append}
 use lib.Seq.{take-at, length-take-le}
-use borrow.Author.Tests.{ltb-true, ltb-false}
-use Rattle.common.proofs.Tests.{clash, split}
 use Rattle.kinds.specs.declared.Size.{Size}
 use Rattle.kinds.specs.Sizes.{benchesOf}
 use Rattle.book.specs.Book.{mostHeld, Book, newBook, answer}
 use Rattle.spelling.specs.Stored.{Stored}
 use Rattle.spelling.specs.Answers.{totals, refusalOf}
-use Rattle.spelling.specs.Lines.{linesOf}
-use Rattle.spelling.specs.Fields.{lineAt, nextAt}
 use Rattle.spelling.specs.declared.LedgerSaid.{LedgerSaid}
 use Rattle.spelling.specs.declared.LedgerSaid.the-variants.{Does, Malformed}
 use Rattle.spelling.specs.declared.LedgerRead.the-variants.{Next, End}
-use Rattle.spelling.specs.LedgerReading.{ledgerSaidOf, readScript, readScriptLineOf}
+use Rattle.spelling.specs.LedgerReading.{readScript, readScriptLineOf}
 use Rattle.spelling.specs.LedgerSteps.{stepIs}
-use Rattle.spelling.proofs.TextTrip.{lines-at, next-above}
 use Rattle.spelling.proofs.Stores.{Left, left-start, left-step, left-end, left-room}
 use Rattle.spelling.proofs.Answers.{refusal-one}
 use Rattle.spelling.proofs.LedgerLines.{few-tags}
+use Rattle.spelling.proofs.LedgerLineTrip.{read-line-reads, read-line-ends}
 use Rattle.ledger.specs.Seen.{Lent, lending, nextBy, bookOf}
 use Rattle.ledger.specs.Promises.{laid, Begins}
 use Rattle.ledger.proofs.Made.{Made, made-new, made-step}
@@ -33,36 +28,6 @@ use Rattle.reports.proofs.LedgerLengths.{lineFor}
 use Rattle.ledger_report.specs.declared.steps.Played.{Played}
 use Rattle.ledger_report.specs.Parts.{seenRows, seenLines}
 use Rattle.ledger_report.specs.Playing.{LineTells, Plays}
-
--- ---- the line at a place, and the others
-
--- the line y stands at a place, and the next begins at `behind`
-record Reads (text : List ℕ) (at : ℕ) (y : LedgerSaid) (behind : ℕ) : Type 0 where
-  pub script : readScript (drop at text) ≡ y ∷ readScript (drop behind text)
-  pub above : at < behind
-  pub within : behind ≤ length text
-
-module _ (text : List ℕ) (at : ℕ) where
-  read-line-reads : (y : LedgerSaid) (behind : ℕ) → readScriptLineOf text at ≡ Next y behind → Reads text at y behind
-  unfolding readScriptLineOf readScript
-  read-line-reads y behind e = split (ltb at (length text))
-      (λ h.
-      let u : Next (ledgerSaidOf (lineAt text at)) (nextAt text at) ≡ Next y behind = sym (rw h refl) ∙ e in
-      let i = ltb-true at (length text) h in
-      let p : ledgerSaidOf (lineAt text at) ≡ y = cc in
-      let q : nextAt text at ≡ behind = cc in
-      record {
-        script = rw (lines-at text at i, p, q) refl;
-        above = omega (arith, next-above text at i);
-        within = omega (arith, next-above text at i);
-      })
-      (λ h. clash (let u : End ≡ Next y behind = sym (rw h refl) ∙ e in cc))
-
-  read-line-ends : readScriptLineOf text at ≡ End → readScript (drop at text) ≡ []
-  unfolding readScriptLineOf readScript linesOf
-  read-line-ends e = split (ltb at (length text))
-      (λ h. clash (let u : Next (ledgerSaidOf (lineAt text at)) (nextAt text at) ≡ End = sym (rw h refl) ∙ e in cc))
-      (λ h. rw (drop-of-length-le text (ltb-false at (length text) h)) refl)
 
 -- ---- the report from a line on: k lines were played, r of them refused
 
@@ -159,7 +124,7 @@ module _ (size : Size) (text room₀ : List ℕ) where
       here : Left room₀ 0 (ledgerReportOf size text) room next
           (lineFor size (lines + 1) now y ++ restOf size (lines + 1) (refused + refusal size now y) (ledgerAnswerTo size now y .book) (readScript (drop behind text)))
       unfolding restOf
-      here = rw (read-line-reads text at y behind e .script) at (p .left)
+      here = rw (read-line-reads text at y behind e .lines) at (p .left)
 
       -- less of the text is left
       pub playing-less : length text - behind < length text - at

@@ -3,7 +3,6 @@
 use mathlib.Core.Path.{_≡_, refl, sym, ap, _∙_}
 use Prim.Native.Nat.{ℕ, suc, _≤_}
 use mathlib.Core.Bool.{Bool, true, false, not, _&&_, _||_, true≢false, or-true}
-use native.Mathlib.Omega.{arith}
 use lib.Dec.{eqb}
 use borrow.Author.Tests.{le-leb, ne-eqb}
 use Rattle.published.specs.Rounds.{Run, running, isRunning, isFailed, waiting, some, decides, settled, Limit, unlimited, allows, start, turn, arrive, notice, Step, checks, after, Answer, refuse, done, step}

@@ -1,8 +1,4 @@
 -- `fits`: a word has no bit past 31, and below that what is left of it by the shift tells.
-use mathlib.Core.Path.{sym, ap, _∙_}
-use Prim.Native.Nat.{ℕ, _^_}
-use native.Mathlib.Omega.{arith}
-use lib.Dec.{ltb}
 use Rattle.sets.proofs.Worlds.{fits-all, fits-shift}
 use borrow.Author.Needs.{needs}
 use Rattle.sets.proofs.fits.Statement.{statement}
