@@ -12,8 +12,8 @@ use Rattle.common.specs.Benches.{isBench, In}
 use Rattle.common.proofs.Tests.{both, implies, imply, clash, split}
 use Rattle.common.proofs.Benches.{bench-in, in-bench, every-get, every-make}
 use Rattle.common.proofs.Updates.{put-same}
-use Rattle.book.specs.Answers.{Counts, Closed, Open, LetsGo, Given, join-0, join-1, join-13, join-14, sweep-0, sweep-1, sweep-15, sweep-17, sweep-25, close-0, close-1, close-15, close-17, end-0, end-1, end-15, end-16, end-18, end-19, handOut-0, handOut-17, handOut-24, handOut-22}
-use Rattle.book.specs.Book.{lastSlot, mostHeld, Row, unknown, joined, ended, hasJoined, isOpen, firstSlot, openSlot, isMember, mayGo, tagsOf, Book, withRow, swept, advanced, Step, join, sweep, close, handOut, answer, checks, after, step}
+use Rattle.book.specs.Answers.{Counts, Closed, Open, DoneWith, LetsGo, Given, join-0, join-1, join-13, join-14, sweep-0, sweep-1, sweep-15, sweep-17, sweep-25, close-0, close-1, close-15, close-17, end-0, end-1, end-15, end-16, end-18, end-19, handOut-0, handOut-17, handOut-24, handOut-22}
+use Rattle.book.specs.Book.{lastSlot, lastOut, mostHeld, Row, unknown, joined, ended, hasJoined, isOpen, firstSlot, openSlot, isMember, doneWith, allClosed, mayGo, tagsOf, Book, withRow, swept, advanced, Step, join, sweep, close, handOut, answer, checks, after, step}
 
 -- ---- rows
 
@@ -66,14 +66,22 @@ open-is (ended f o x) e = clash (cc)
 
 -- ---- a slot may go out exactly where every sender lets it go
 
+all-closed-get : (n k : ℕ) (rows : ℕ → Row) → allClosed n k rows ≡ true → (s : ℕ) → In n s → DoneWith k (rows s)
+unfolding allClosed doneWith
+all-closed-get n k rows e s i c = let m = member-is k (rows s) c in
+    is-closed k (rows s) m (implies (isMember k (rows s)) (ltb k (openSlot (rows s))) (every-get n _ s e i) m)
+
+all-closed-make : (n k : ℕ) (rows : ℕ → Row) → ((s : ℕ) → In n s → DoneWith k (rows s)) → allClosed n k rows ≡ true
+unfolding allClosed doneWith
+all-closed-make n k rows h = every-make n _ (λ s i. imply (isMember k (rows s)) (ltb k (openSlot (rows s))) (λ m. closed-is k (rows s) (h s i (members k (rows s) m))))
+
 pub may-go-get : (n k : ℕ) (rows : ℕ → Row) → mayGo n k rows ≡ true → (s : ℕ) → In n s → LetsGo k (rows s)
 unfolding mayGo
-may-go-get n k rows e s i c = let m = member-is k (rows s) c in
-    is-closed k (rows s) m (implies (isMember k (rows s)) (ltb k (openSlot (rows s))) (every-get n _ s e i) m)
+may-go-get n k rows e s i = let z = both (allClosed n k rows) (allClosed n (suc k) rows) e in (all-closed-get n k rows (z .0) s i, all-closed-get n (suc k) rows (z .1) s i)
 
 pub may-go-make : (n k : ℕ) (rows : ℕ → Row) → ((s : ℕ) → In n s → LetsGo k (rows s)) → mayGo n k rows ≡ true
 unfolding mayGo
-may-go-make n k rows h = every-make n _ (λ s i. imply (isMember k (rows s)) (ltb k (openSlot (rows s))) (λ m. closed-is k (rows s) (h s i (members k (rows s) m))))
+may-go-make n k rows h = rw (all-closed-make n k rows (λ s i. h s i .0), all-closed-make n (suc k) rows (λ s i. h s i .1)) refl
 
 -- ---- the table
 
@@ -84,8 +92,8 @@ module _ (n : ℕ) (b : Book) where
   outside : (f : ℕ) → ((b .next ≤ f) × (f ≤ lastSlot) → ⊥) → (leb (b .next) f && leb f lastSlot) ≡ false
   outside f h = split (leb (b .next) f && leb f lastSlot) (λ e. let z = both (leb (b .next) f) (leb f lastSlot) e in absurd (h (leb-true (b .next) f (z .0), leb-true f lastSlot (z .1)))) (λ e. e)
 
-  waits : (s : ℕ) → In n s → Counts (b .next) (b .rows s) → (Closed (b .next) (b .rows s) → ⊥) → mayGo n (b .next) (b .rows) ≡ false
-  waits s i c h = split (mayGo n (b .next) (b .rows)) (λ e. absurd (h (may-go-get n (b .next) (b .rows) e s i c))) (λ e. e)
+  waits : (s : ℕ) → In n s → (LetsGo (b .next) (b .rows s) → ⊥) → mayGo n (b .next) (b .rows) ≡ false
+  waits s i h = split (mayGo n (b .next) (b .rows)) (λ e. absurd (h (may-go-get n (b .next) (b .rows) e s i))) (λ e. e)
 
   goes : ((s : ℕ) → In n s → LetsGo (b .next) (b .rows s)) → mayGo n (b .next) (b .rows) ≡ true
   goes = may-go-make n (b .next) (b .rows)
@@ -111,10 +119,10 @@ module _ (n : ℕ) (b : Book) where
   given a k (end-16 s e f o x i q) = rw (in-bench n s i, q) refl
   given a k (end-18 s e f o i q u) = rw (in-bench n s i, q, lt-leb e o u) refl
   given a k (end-19 s e f o i q u g) = rw (in-bench n s i, q, le-leb e o u, lt-leb (b .next) e g) refl
-  given a k (handOut-0 room u h g) = rw (le-leb (b .next) lastSlot u, goes h, le-leb (length (tagsOf n (b .next) (b .held))) room g) refl
-  given a k (handOut-17 room u) = rw (lt-leb (b .next) lastSlot u) refl
-  given a k (handOut-24 room s u i c h) = rw (le-leb (b .next) lastSlot u, waits s i c h) refl
-  given a k (handOut-22 room u h g) = rw (le-leb (b .next) lastSlot u, goes h, lt-leb (length (tagsOf n (b .next) (b .held))) room g) refl
+  given a k (handOut-0 room u h g) = rw (le-leb (b .next) lastOut u, goes h, le-leb (length (tagsOf n (b .next) (b .held))) room g) refl
+  given a k (handOut-17 room u) = rw (lt-leb (b .next) lastOut u) refl
+  given a k (handOut-24 room s u i h) = rw (le-leb (b .next) lastOut u, waits s i h) refl
+  given a k (handOut-22 room u h g) = rw (le-leb (b .next) lastOut u, goes h, lt-leb (length (tagsOf n (b .next) (b .held))) room g) refl
 
   -- ---- what is left by a step that is done: the sweep behind all that are held, the next slot open, the slot handed out behind
 
@@ -130,7 +138,7 @@ module _ (n : ℕ) (b : Book) where
   unfolding step checks judge answer after isOpen firstSlot openSlot withRow
   closes s f o i e u = rw (in-bench n s i, e, le-leb o lastSlot u) (put-same (b .rows) s (joined f (suc o)))
 
-  pub hands-out : (room : ℕ) → b .next ≤ lastSlot → ((s : ℕ) → In n s → LetsGo (b .next) (b .rows s)) → length (tagsOf n (b .next) (b .held)) ≤ room
+  pub hands-out : (room : ℕ) → b .next ≤ lastOut → ((s : ℕ) → In n s → LetsGo (b .next) (b .rows s)) → length (tagsOf n (b .next) (b .held)) ≤ room
       → (step n b (handOut room) .tags ≡ tagsOf n (b .next) (b .held)) × (step n b (handOut room) .book .next ≡ suc (b .next))
   unfolding step checks judge answer after advanced
-  hands-out room u h g = rw (le-leb (b .next) lastSlot u, goes h, le-leb (length (tagsOf n (b .next) (b .held))) room g) (refl, refl)
+  hands-out room u h g = rw (le-leb (b .next) lastOut u, goes h, le-leb (length (tagsOf n (b .next) (b .held))) room g) (refl, refl)

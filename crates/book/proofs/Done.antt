@@ -9,7 +9,7 @@ use Rattle.common.specs.Benches.{In}
 use Rattle.common.specs.Checks.{Fails}
 use Rattle.common.proofs.Tests.{clash}
 use Rattle.book.specs.Answers.{LetsGo}
-use Rattle.book.specs.Book.{lastSlot, mostHeld, unknown, joined, ended, tagsOf, Book, withRow, swept, cut, advanced, Step, join, sweep, close, end, handOut, answer, checks, step}
+use Rattle.book.specs.Book.{lastSlot, lastOut, mostHeld, unknown, joined, ended, tagsOf, Book, withRow, swept, cut, advanced, Step, join, sweep, close, end, handOut, answer, checks, step}
 use Rattle.book.proofs.Answers.{may-go-get}
 use Rattle.book.proofs.Outcomes.{positive, join-ind, sweep-ind, close-ind, end-ind, handOut-ind}
 
@@ -44,7 +44,7 @@ module _ (n : ℕ) (b : Book) (P : Book → Type 0) where
 
 -- a hand-out that is done writes the tags of the next slot, which every sender has let go
 pub handOut-done : (n : ℕ) (b : Book) (P : List ℕ → Book → Type 0) (room : ℕ)
-    → (b .next ≤ lastSlot → ((s : ℕ) → In n s → LetsGo (b .next) (b .rows s)) → length (tagsOf n (b .next) (b .held)) ≤ room → P (tagsOf n (b .next) (b .held)) (advanced b))
+    → (b .next ≤ lastOut → ((s : ℕ) → In n s → LetsGo (b .next) (b .rows s)) → length (tagsOf n (b .next) (b .held)) ≤ room → P (tagsOf n (b .next) (b .held)) (advanced b))
     → step n b (handOut room) .number ≡ 0 → P (step n b (handOut room) .tags) (step n b (handOut room) .book)
 unfolding answer
 handOut-done n b P room d = handOut-ind n b (λ a. a .number ≡ 0 → P (a .tags) (a .book)) room (λ k z q. never-0 n b (handOut room) k z q)

@@ -1,29 +1,32 @@
 -- The invariant of every book that is made from a new one: `Kept`. New books have it, every step keeps it, and from it follow the facts
 -- that document 01's numbers rest on. What it consists of is nobody else's matter. Assumes nothing.
 use mathlib.Core.Path.{_≡_, refl}
-use Prim.Native.Nat.{ℕ, suc, _≤_, _<_}
+use Prim.Native.Nat.{ℕ, suc, _-_, _≤_, _<_, max}
 use mathlib.Core.Bool.{true, not, _&&_}
 use mathlib.Core.List.{List, [], _∷_}
 use native.Mathlib.Omega.{arith}
 use lib.ListN.{length, length-append}
 use lib.Dec.{eqb, leb}
-use borrow.Author.Tests.{eqb-false, eq-eqb, leb-true, leb-false, le-leb, not-true}
+use borrow.Author.Tests.{eqb-false, eq-eqb, leb-true, leb-false, not-true}
 use Rattle.common.specs.Lists.{All, none, more}
 use Rattle.common.specs.Updates.{put}
-use Rattle.common.proofs.Tests.{both, clash, split}
+use Rattle.common.proofs.Tests.{clash, split}
 use Rattle.common.proofs.Updates.{put-ind}
-use Rattle.common.specs.Benches.{In}
+use Rattle.common.specs.Benches.{In, isBench}
+use Rattle.common.proofs.Benches.{bench-in, in-bench}
 use Rattle.book.specs.Book.{lastSlot, mostHeld, Sweep, only, Row, unknown, joined, ended, openSlot, mayGo, Book, newBook, withRow, swept, cut, advanced, Step, join, sweep, close, end, handOut, answer, step}
+use Rattle.book.specs.Answers.{end-0}
 use Rattle.book.specs.Sweeps.{Lies, Holding}
 use Rattle.book.specs.Traffic.{bookFrom}
 use Rattle.book.proofs.Only.{all-append, all-map, all-only, only-length}
-use Rattle.book.proofs.Answers.{may-go-get}
+use Rattle.book.proofs.Answers.{may-go-get, given}
 use Rattle.book.proofs.Outcomes.{join-ind, sweep-ind, close-ind, end-ind, handOut-ind}
 
--- the row of a sender, at next slot k: it has not opened a slot below its first, and without an end its open slot is not below k
+-- the row of a sender, at next slot k: its open slot is not below its first; without an end, k is not above the greater of its first slot and the
+-- slot before its open one
 abbrev Stands : ℕ → Row → Type 0
 Stands k unknown = _≡_ {A = ℕ} 0 0
-Stands k (joined f o) = (f ≤ o) × (k ≤ o) × (o ≤ suc lastSlot)
+Stands k (joined f o) = (f ≤ o) × (k ≤ max f (o - 1)) × (o ≤ suc lastSlot)
 Stands k (ended f o e) = (f ≤ o) × (e ≤ o) × (o ≤ suc lastSlot)
 
 record Facts (n : ℕ) (b : Book) : Type 0 where
@@ -67,13 +70,16 @@ module _ (n : ℕ) (b : Book) (h : Facts n b) where
   lies-joined : (w : Sweep) (s f o : ℕ) → b .rows s ≡ joined f o → w .sender ≡ s → Lies (w .slot) (b .rows (w .sender)) → (f ≤ w .slot) × (w .slot ≤ o)
   lies-joined w s f o e q l = rw (q, e) at l
 
-  stands-joined : (s f o : ℕ) → b .rows s ≡ joined f o → (f ≤ o) × (b .next ≤ o) × (o ≤ suc lastSlot)
+  stands-joined : (s f o : ℕ) → b .rows s ≡ joined f o → (f ≤ o) × (b .next ≤ max f (o - 1)) × (o ≤ suc lastSlot)
   stands-joined s f o e = let g = h .stands s in rw e at g
+
+  sender-in : (s f o : ℕ) → b .rows s ≡ joined f o → In n s
+  sender-in s f o e = split (isBench n s) (bench-in n s) (λ q. clash (cc (h .outside s (λ i. clash (cc (in-bench n s i))))))
 
   kept-join : (s f : ℕ) → Facts n (step n b (join s f) .book)
   unfolding answer withRow
   kept-join s f = join-ind n b (λ a. Facts n (a .book)) s f (λ k e. h) λ i e g u.
-      row-anew n b s (joined f f) (b .held) h i (omega arith, g, omega arith)
+      row-anew n b s (joined f f) (b .held) h i (omega arith, omega arith, omega arith)
       (all-map _ _ (b .held) (λ w x. stays n (b .next) (b .rows) s (joined f f) w x (λ q. absurd (lies-unknown w s e q (x .lies)))) (h .holding)) (h .few)
 
   kept-sweep : (s t : ℕ) → Facts n (step n b (sweep s t) .book)
@@ -109,21 +115,18 @@ module _ (n : ℕ) (b : Book) (h : Facts n b) where
           (λ k. clash (cc (eq-eqb (w .sender) s p)))
           (λ k. leb-false e (w .slot) k)
 
-  -- where slot `next` may go out, nobody's open slot is that one
-  let-go : (s : ℕ) → In n s → (f o : ℕ) → b .rows s ≡ joined f o → mayGo n (b .next) (b .rows) ≡ true → suc (b .next) ≤ o
+  -- where slot `next` may go out, who is a member of the slot after it has closed that, and who joins later has a first slot above it
+  let-go : (s : ℕ) → In n s → (f o : ℕ) → b .rows s ≡ joined f o → mayGo n (b .next) (b .rows) ≡ true → suc (b .next) ≤ max f (o - 1)
   let-go s i f o e m =
-      let g = stands-joined s f o e in
-      let t = may-go-get n (b .next) (b .rows) m s i in
-      let t′ : f ≤ b .next → b .next < o = rw e at t in
-      split (leb f (b .next)) (λ k. t′ (leb-true f (b .next) k)) (λ k. omega (arith, leb-false f (b .next) k))
+      let t = may-go-get n (b .next) (b .rows) m s i .1 in
+      let t′ : f ≤ suc (b .next) → suc (b .next) < o = rw e at t in
+      split (leb f (suc (b .next)))
+      (λ k. let c = t′ (leb-true f (suc (b .next)) k) in omega arith)
+      (λ k. omega (arith, leb-false f (suc (b .next)) k))
 
   stands-next : mayGo n (b .next) (b .rows) ≡ true → (s : ℕ) (r : Row) → b .rows s ≡ r → Stands (b .next) r → Stands (suc (b .next)) r
   stands-next m s unknown e g = refl
-  stands-next m s (joined f o) e g = (g .0, let-go s (known s f o e) f o e m, g .2)
-    where
-      known : (s f o : ℕ) → b .rows s ≡ joined f o → In n s
-      known s f o e = split (leb 1 s && leb s n) (λ q. let z = both (leb 1 s) (leb s n) q in (leb-true 1 s (z .0), leb-true s n (z .1)))
-          (λ q. clash (cc (h .outside s (λ i. clash (cc (le-leb 1 s (i .0), le-leb s n (i .1)))))))
+  stands-next m s (joined f o) e g = (g .0, let-go s (sender-in s f o e) f o e m, g .2)
   stands-next m s (ended f o x) e g = g
 
   kept-handOut : (room : ℕ) → Facts n (step n b (handOut room) .book)
@@ -162,10 +165,20 @@ module _ (n : ℕ) (b : Book) (h : Kept n b) where
   unfolding Kept
   kept-few = h .few
 
-  -- the next slot is not above the open slot of a sender without end, and that is not below its first
+  -- the next slot is not above the greater of the first slot of a sender without end and the slot before its open one
+  pub kept-behind : (s f o : ℕ) → b .rows s ≡ joined f o → b .next ≤ max f (o - 1)
+  unfolding Kept
+  kept-behind s f o e = stands-joined n b h s f o e .1
+
+  -- nor above its open slot, and that is not below its first
   pub kept-open : (s f o : ℕ) → b .rows s ≡ joined f o → (b .next ≤ o) × (f ≤ o) × (o ≤ suc lastSlot)
   unfolding Kept
-  kept-open s f o e = let g = stands-joined n b h s f o e in (g .1, g .0, g .2)
+  kept-open s f o e = let g = stands-joined n b h s f o e in (omega arith, g .0, g .2)
+
+  -- so an end at its open slot or the one before, and not below its first, is done
+  pub late-end : (s f o e : ℕ) → b .rows s ≡ joined f o → max f (o - 1) ≤ e → e ≤ o → step n b (end s e) .number ≡ 0
+  unfolding Kept
+  late-end s f o e q u v = let g = kept-behind s f o q in given n b (end s e) 0 (end-0 s e f o (sender-in n b h s f o q) q v (omega arith))
 
   -- no open slot is above 65,535
   pub kept-slot : (s : ℕ) → openSlot (b .rows s) ≤ suc lastSlot

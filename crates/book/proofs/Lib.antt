@@ -5,6 +5,7 @@ pub mod Numbers
 pub mod Unended
 pub mod Only
 pub mod Kept
+pub mod Next
 pub mod Tags
 pub mod Senders
 pub mod Accounts

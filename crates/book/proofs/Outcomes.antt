@@ -13,7 +13,7 @@ use Rattle.common.proofs.Checks.{first-check, other-checks, judge-ind, judge-fa
 use Rattle.common.specs.Benches.{In}
 use Rattle.common.proofs.Benches.{bench-in}
 use Rattle.book.proofs.Answers.{unknown-is, open-is}
-use Rattle.book.specs.Book.{lastSlot, mostHeld, unknown, joined, ended, firstSlot, openSlot, mayGo, tagsOf, Book, withRow, swept, cut, advanced, Step, join, sweep, close, end, handOut, Answer, answer, checks, after, step}
+use Rattle.book.specs.Book.{lastSlot, lastOut, mostHeld, unknown, joined, ended, firstSlot, openSlot, mayGo, tagsOf, Book, withRow, swept, cut, advanced, Step, join, sweep, close, end, handOut, Answer, answer, checks, after, step}
 
 -- ---- no refusal has the number 0, and whatever is done has it
 
@@ -105,8 +105,8 @@ module _ (n : ℕ) (b : Book) (P : Answer → Type 0) where
       rw (o .2) (d (o .0) (o .1) (bench-in n s (first-check 1 _ _ h)) (o .2) (rw (o .2) at h₁₈) (leb-true (b .next) e (first-check 19 _ _ (other-checks 18 _ _ h₃))))
 
   pub handOut-ind : (room : ℕ) → ((k : ℕ) → Fails (checks n b (handOut room)) k → P (answer k [] b))
-      → (b .next ≤ lastSlot → mayGo n (b .next) (b .rows) ≡ true → length (tagsOf n (b .next) (b .held)) ≤ room → P (answer 0 (tagsOf n (b .next) (b .held)) (advanced b))) → P (step n b (handOut room))
+      → (b .next ≤ lastOut → mayGo n (b .next) (b .rows) ≡ true → length (tagsOf n (b .next) (b .held)) ≤ room → P (answer 0 (tagsOf n (b .next) (b .held)) (advanced b))) → P (step n b (handOut room))
   unfolding checks after
   handOut-ind room r d = step-ind n b (handOut room) P r λ h.
       let h₂ = other-checks 17 _ _ h in
-      d (leb-true (b .next) lastSlot (first-check 17 _ _ h)) (first-check 24 _ _ h₂) (leb-true (length (tagsOf n (b .next) (b .held))) room (first-check 22 _ _ (other-checks 24 _ _ h₂)))
+      d (leb-true (b .next) lastOut (first-check 17 _ _ h)) (first-check 24 _ _ h₂) (leb-true (length (tagsOf n (b .next) (b .held))) room (first-check 22 _ _ (other-checks 24 _ _ h₂)))

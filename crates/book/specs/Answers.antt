@@ -1,9 +1,9 @@
 -- When each number is answered: document 01's table and its order of checks, in facts of the senders' rows. This file is to be believed.
 use mathlib.Core.Path.{_≡_}
-use Prim.Native.Nat.{ℕ, _≤_, _<_}
+use Prim.Native.Nat.{ℕ, suc, _≤_, _<_}
 use lib.ListN.{length}
 use Rattle.common.specs.Benches.{In}
-use Rattle.book.specs.Book.{lastSlot, mostHeld, Row, unknown, joined, ended, tagsOf, Book, Step, join, sweep, close, end, handOut}
+use Rattle.book.specs.Book.{lastSlot, lastOut, mostHeld, Row, unknown, joined, ended, tagsOf, Book, Step, join, sweep, close, end, handOut}
 
 -- ---- rows
 
@@ -25,9 +25,13 @@ Open unknown = ⊥
 Open (joined f o) = Unit {0}
 Open (ended f o e) = ⊥
 
--- it lets slot k go: if it is a member of it, it has closed it
+-- it is done with slot k: if it is a member of it, it has closed it
+abbrev pub DoneWith : ℕ → Row → Type 0
+DoneWith k r = Counts k r → Closed k r
+
+-- it lets slot k go: it is done with it and with the slot after it
 abbrev pub LetsGo : ℕ → Row → Type 0
-LetsGo k r = Counts k r → Closed k r
+LetsGo k r = DoneWith k r × DoneWith (suc k) r
 
 -- ---- the table
 
@@ -52,7 +56,7 @@ pub data Given (n : ℕ) (b : Book) : Step → ℕ → Type 0 where
   end-16 : (s e f o x : ℕ) → In n s → b .rows s ≡ ended f o x → Given n b (end s e) 16
   end-18 : (s e f o : ℕ) → In n s → b .rows s ≡ joined f o → o < e → Given n b (end s e) 18
   end-19 : (s e f o : ℕ) → In n s → b .rows s ≡ joined f o → e ≤ o → e < b .next → Given n b (end s e) 19
-  handOut-0 : (room : ℕ) → b .next ≤ lastSlot → ((s : ℕ) → In n s → LetsGo (b .next) (b .rows s)) → length (tagsOf n (b .next) (b .held)) ≤ room → Given n b (handOut room) 0
-  handOut-17 : (room : ℕ) → lastSlot < b .next → Given n b (handOut room) 17
-  handOut-24 : (room s : ℕ) → b .next ≤ lastSlot → In n s → Counts (b .next) (b .rows s) → (Closed (b .next) (b .rows s) → ⊥) → Given n b (handOut room) 24
-  handOut-22 : (room : ℕ) → b .next ≤ lastSlot → ((s : ℕ) → In n s → LetsGo (b .next) (b .rows s)) → room < length (tagsOf n (b .next) (b .held)) → Given n b (handOut room) 22
+  handOut-0 : (room : ℕ) → b .next ≤ lastOut → ((s : ℕ) → In n s → LetsGo (b .next) (b .rows s)) → length (tagsOf n (b .next) (b .held)) ≤ room → Given n b (handOut room) 0
+  handOut-17 : (room : ℕ) → lastOut < b .next → Given n b (handOut room) 17
+  handOut-24 : (room s : ℕ) → b .next ≤ lastOut → In n s → (LetsGo (b .next) (b .rows s) → ⊥) → Given n b (handOut room) 24
+  handOut-22 : (room : ℕ) → b .next ≤ lastOut → ((s : ℕ) → In n s → LetsGo (b .next) (b .rows s)) → room < length (tagsOf n (b .next) (b .held)) → Given n b (handOut room) 22

@@ -9,9 +9,12 @@ use Rattle.common.specs.Checks.{Check, needs, judge}
 use Rattle.common.specs.Benches.{isBench, every}
 use Rattle.common.specs.Updates.{put}
 
--- ---- Document 01's limits: the last slot that can be handed out, and the most sweeps that are held
+-- ---- The limits: the last slot that can be closed; the last that can be handed out, as the slot after it has to be closed too; the most sweeps held
 abbrev pub lastSlot : ℕ
 lastSlot = 65534
+
+abbrev pub lastOut : ℕ
+lastOut = 65533
 
 abbrev pub mostHeld : ℕ
 mostHeld = 1024
@@ -64,9 +67,17 @@ isMember k unknown = false
 isMember k (joined f o) = leb f k
 isMember k (ended f o e) = leb f k && ltb k e
 
--- slot k may go out: every member of it has closed it, so that its open slot is a later one
+-- done with slot k: no member of it, or it has closed it, so that its open slot is a later one
+unfoldable pub doneWith : ℕ → Row → Bool
+doneWith k r = not (isMember k r) || ltb k (openSlot r)
+
+-- every member of slot k has closed it
+unfoldable pub allClosed : ℕ → ℕ → (ℕ → Row) → Bool
+allClosed n k rows = every n (λ s. doneWith k (rows s))
+
+-- slot k may go out: every member of it has closed it, and every member of the slot after it has closed that
 unfoldable pub mayGo : ℕ → ℕ → (ℕ → Row) → Bool
-mayGo n k rows = every n (λ s. not (isMember k (rows s)) || ltb k (openSlot (rows s)))
+mayGo n k rows = allClosed n k rows && allClosed n (suc k) rows
 
 -- ---- The book: the next slot to hand out, the senders' rows, the sweeps held in order of arrival. Document 01's new book begins at 0
 pub record Book : Type 0 where
@@ -101,7 +112,7 @@ checks n b (join s f) = needs 1 (isBench n s) ∷ needs 13 (not (hasJoined (b .r
 checks n b (sweep s t) = needs 1 (isBench n s) ∷ needs 15 (isOpen (b .rows s)) ∷ needs 17 (leb (openSlot (b .rows s)) lastSlot) ∷ needs 25 (ltb (length (b .held)) mostHeld) ∷ []
 checks n b (close s) = needs 1 (isBench n s) ∷ needs 15 (isOpen (b .rows s)) ∷ needs 17 (leb (openSlot (b .rows s)) lastSlot) ∷ []
 checks n b (end s e) = needs 1 (isBench n s) ∷ needs 15 (hasJoined (b .rows s)) ∷ needs 16 (isOpen (b .rows s)) ∷ needs 18 (leb e (openSlot (b .rows s))) ∷ needs 19 (leb (b .next) e) ∷ []
-checks n b (handOut room) = needs 17 (leb (b .next) lastSlot) ∷ needs 24 (mayGo n (b .next) (b .rows)) ∷ needs 22 (leb (length (tagsOf n (b .next) (b .held))) room) ∷ []
+checks n b (handOut room) = needs 17 (leb (b .next) lastOut) ∷ needs 24 (mayGo n (b .next) (b .rows)) ∷ needs 22 (leb (length (tagsOf n (b .next) (b .held))) room) ∷ []
 
 -- 0, the tags written and the book after, where every check holds; or a refusal's number, and the book as it was
 pub record Answer : Type 0 where

@@ -43,6 +43,18 @@ every-fails (suc n) p e = split (p (suc n))
     first-fails true c e z = clash (cc)
     first-fails false c e z = refl
 
+-- two tests of every bench are one test of both
+pub every-both : (n : ℕ) (p q : ℕ → Bool) → every n (λ i. p i && q i) ≡ (every n p && every n q)
+unfolding every
+every-both zero p q = refl
+every-both (suc n) p q = rw (every-both n p q) (middle (every n p) (every n q) (p (suc n)) (q (suc n)))
+  where
+    middle : (a b c d : Bool) → ((a && b) && (c && d)) ≡ ((a && c) && (b && d))
+    middle true true c d = refl
+    middle true false true d = refl
+    middle true false false d = refl
+    middle false b c d = refl
+
 -- one more bench, as a loop counts
 pub every-next : (i : ℕ) (p : ℕ → Bool) → every (i + 1) p ≡ (every i p && p (i + 1))
 unfolding every

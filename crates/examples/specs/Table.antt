@@ -1,4 +1,4 @@
--- P1 to P10 of document 01 as one table, over the definitions of steps, text and ledger. This file is to be believed: `examples` of proofs/Table.antt
+-- P1 to P10 of document 01 as one table, P9 as document 02's W1 changes it, and W1's own cases, over the definitions of steps, text and ledger. This file is to be believed: `examples` of proofs/Table.antt
 -- says that the table holds. A world is written in binary: 0b011 is benches 1 and 2. Where an example is silent, values are 5 and all benches are in
 -- the world.
 use Prim.Native.Nat.{ℕ}
@@ -15,7 +15,8 @@ use Rattle.reports.specs.RunReport.{answerTo}
 use Rattle.book.specs.Book as ledger
 use Rattle.book.specs.Book.{Book, newBook}
 
--- a line of an example: a step, a line of text or a ledger step with its answer; or what a bench then stands at; or the tags of a hand-out
+-- a line of an example: a step, a line of text or a ledger step with its answer; or what a bench then stands at; or the tags of a hand-out; or a
+-- new ledger that begins at a slot
 pub data Line : Type 0 where
   does : Step → ℕ → Line
   reads : String → ℕ → Line
@@ -23,6 +24,7 @@ pub data Line : Type 0 where
   decides′ : ℕ → ℕ → ℕ → Line
   keeps : ledger.Step → ℕ → Line
   hands : List ℕ → Line
+  begins : ℕ → Line
 
 unfoldable pub isRound : State → ℕ → ℕ → Bool
 isRound running r q = eqb r q
@@ -66,6 +68,7 @@ holds s b (stands i r v w ∷ l) = (isRound (s i .state) (s i .round) r && eqb (
 holds s b (decides′ i r v ∷ l) = (isDecided (s i .state) && eqb (s i .round) r && isValue (s i .decision) v) && holds s b l
 holds s b (keeps a k ∷ l) = eqb (ledger.step benches b a .number) k && holds s (ledger.step benches b a .book) l
 holds s b (hands t ∷ l) = (eqb (ledger.step benches b (ledger.handOut ledger.mostHeld) .number) 0 && same (ledger.step benches b (ledger.handOut ledger.mostHeld) .tags) t) && holds s (ledger.step benches b (ledger.handOut ledger.mostHeld) .book) l
+holds s b (begins k ∷ l) = holds s (newBook k) l
 
 -- each example from a new run and a new ledger
 unfoldable pub allHold : List (List Line) → Bool
@@ -100,8 +103,18 @@ table =
     -- P8
     ∷ (reads "step=start bench=1 value=65536 world=1" 4 ∷ reads "step=start bench=1 value=65535 world=1" 0 ∷ reads "step=turn bench=017" 20 ∷ reads "step=turn bench=17" 1 ∷ [])
     -- P9: tags a, b, c are 97, 98, 99
-    ∷ (kept (ledger.join 1 0) ∷ kept (ledger.join 2 0) ∷ kept (ledger.sweep 2 97) ∷ kept (ledger.sweep 1 98) ∷ kept (ledger.sweep 1 99) ∷ kept (ledger.close 1) ∷ kept (ledger.close 2)
+    ∷ (kept (ledger.join 1 0) ∷ kept (ledger.join 2 0) ∷ kept (ledger.sweep 2 97) ∷ kept (ledger.sweep 1 98) ∷ kept (ledger.sweep 1 99) ∷ kept (ledger.close 1) ∷ kept (ledger.close 1) ∷ kept (ledger.close 2) ∷ kept (ledger.close 2)
     ∷ hands (98 ∷ 99 ∷ 97 ∷ []) ∷ [])
     -- P10
     ∷ (kept (ledger.join 1 0) ∷ kept (ledger.close 1) ∷ keeps (ledger.end 1 2) 18 ∷ kept (ledger.end 1 1) ∷ keeps (ledger.end 1 1) 16 ∷ [])
+    -- W1: laptop 2 has closed 30 and 30 does not go out before 31 is closed, so that its end at 30 is done
+    ∷ (begins 30 ∷ kept (ledger.join 2 30) ∷ kept (ledger.join 4 30) ∷ kept (ledger.sweep 2 7) ∷ kept (ledger.sweep 4 8) ∷ kept (ledger.close 2) ∷ kept (ledger.close 4)
+    ∷ keeps (ledger.handOut 9) 24 ∷ kept (ledger.end 2 30) ∷ kept (ledger.close 4) ∷ hands (8 ∷ []) ∷ [])
+    -- who is a member of the slot after alone holds a slot up, even one without members
+    ∷ (kept (ledger.join 1 1) ∷ keeps (ledger.handOut 0) 24 ∷ kept (ledger.close 1) ∷ hands [] ∷ keeps (ledger.handOut 0) 24 ∷ [])
+    -- who ends at the slot after is no member of it; the sweeps of the slot after stay
+    ∷ (kept (ledger.join 1 0) ∷ kept (ledger.join 2 0) ∷ kept (ledger.sweep 1 7) ∷ kept (ledger.close 1) ∷ kept (ledger.close 2) ∷ kept (ledger.sweep 2 8) ∷ kept (ledger.close 2)
+    ∷ keeps (ledger.handOut 0) 24 ∷ kept (ledger.end 1 1) ∷ keeps (ledger.handOut 0) 22 ∷ hands (7 ∷ []) ∷ keeps (ledger.handOut 9) 24 ∷ kept (ledger.close 2) ∷ hands (8 ∷ []) ∷ [])
+    -- the last slot that is handed out
+    ∷ (begins 65533 ∷ kept (ledger.join 1 65533) ∷ keeps (ledger.handOut 0) 24 ∷ kept (ledger.close 1) ∷ kept (ledger.close 1) ∷ hands [] ∷ keeps (ledger.handOut 0) 17 ∷ [])
     ∷ []

@@ -2,7 +2,7 @@
 -- Assumes nothing.
 use mathlib.Core.Path.{_≡_, refl, ap, sym, _∙_}
 use Prim.Native.Nat.{ℕ, suc, _+_, _≤_, _<_, min}
-use mathlib.Core.Bool.{Bool, true, false, not}
+use mathlib.Core.Bool.{Bool, true, false, not, _&&_}
 use mathlib.Core.List.{List, [], _∷_}
 use native.Mathlib.Numerals.{add-one}
 use native.Mathlib.Omega.{arith}
@@ -11,7 +11,7 @@ use lib.Dec.{eqb, eqb·suc-zero}
 use borrow.Author.Tests.{not-true, not-false, le-leb, lt-leb}
 use Rattle.common.specs.Checks.{Holds, nothing, also, Fails, here, later}
 use Rattle.ledger.specs.declared.HandOut.the-variants.{Written, Refused}
-use Rattle.book.specs.Book.{lastSlot, handOut, answer, checks, after, advanced, mayGo, tagsOf}
+use Rattle.book.specs.Book.{lastOut, Row, allClosed, mayGo, tagsOf, advanced, handOut, checks, answer, after}
 use Rattle.senders.specs.Words.{rowsOf}
 use Rattle.ledger.specs.Seen.{roomWords, Lent, lending, nextBy, heldBy, joinedBy, heldIn, bookOf}
 use Rattle.ledger.specs.Words.{NoneOf, TakesOut}
@@ -21,6 +21,11 @@ use Rattle.ledger.proofs.Told.{refused, done, held-min}
 use Rattle.ledger.proofs.Compacting.{compacting-none, compacting-out}
 use Rattle.ledger.proofs.Seats.{none-tags}
 
+-- the slot after, as the code counts it
+pub may-is : (n k : ℕ) (rows : ℕ → Row) (t : Bool) → t ≡ (allClosed n k rows && allClosed n (k + 1) rows) → t ≡ mayGo n k rows
+unfolding mayGo
+may-is n k rows t e = rw (← add-one k) e
+
 module _ (n : ℕ) (x : Lent) (out : List ℕ) where
   refused-hands : (k : ℕ) → Fails (checks n (bookOf x) (handOut (length out))) (suc k) → Hands n x out (Refused (suc k)) x out
   unfolding numberOf handOutOf answer laid
@@ -28,14 +33,14 @@ module _ (n : ℕ) (x : Lent) (out : List ℕ) where
       let e = step-fails n (bookOf x) (handOut (length out)) (suc k) f in
       record { tells = refused n x (handOut (length out)) (suc k) (eqb·suc-zero k) f; answer-is = rw e; out-is = rw e }
 
-  pub hand-17 : lastSlot < nextBy x → Hands n x out (Refused 17) x out
+  pub hand-17 : lastOut < nextBy x → Hands n x out (Refused 17) x out
   unfolding checks bookOf
-  hand-17 h = refused-hands 16 (here 17 _ _ (lt-leb (nextBy x) lastSlot h))
+  hand-17 h = refused-hands 16 (here 17 _ _ (lt-leb (nextBy x) lastOut h))
 
-  module _ (h : nextBy x ≤ lastSlot) (t : Bool) (may : t ≡ mayGo n (nextBy x) (rowsOf (joinedBy x) (x .rows))) where
+  module _ (h : nextBy x ≤ lastOut) (t : Bool) (may : t ≡ mayGo n (nextBy x) (rowsOf (joinedBy x) (x .rows))) where
     pub hand-24 : not t ≡ true → Hands n x out (Refused 24) x out
     unfolding checks bookOf
-    hand-24 q = refused-hands 23 (later 17 _ _ 24 (le-leb (nextBy x) lastSlot h) (here 24 _ _ (sym may ∙ not-true t q)))
+    hand-24 q = refused-hands 23 (later 17 _ _ 24 (le-leb (nextBy x) lastOut h) (here 24 _ _ (sym may ∙ not-true t q)))
 
     module _ (q : not t ≡ false) (room : length (x .room) ≡ roomWords) (count : ℕ) (m : count ≡ min (heldBy x) roomWords) (total : ℕ) (g : total ≡ length (tagsOf n (nextBy x) (heldIn count (x .room)))) where
       all : heldIn count (x .room) ≡ heldIn (heldBy x) (x .room)
@@ -48,7 +53,7 @@ module _ (n : ℕ) (x : Lent) (out : List ℕ) where
       unfolding checks bookOf
       hand-22 k =
           refused-hands 21
-          (later 17 _ _ 22 (le-leb (nextBy x) lastSlot h) (later 24 _ _ 22 (sym may ∙ not-false t q) (here 22 _ _ (lt-leb (length (tagsOf n (nextBy x) (heldIn (heldBy x) (x .room)))) (length out) (omega (arith, total-is))))))
+          (later 17 _ _ 22 (le-leb (nextBy x) lastOut h) (later 24 _ _ 22 (sym may ∙ not-false t q) (here 22 _ _ (lt-leb (length (tagsOf n (nextBy x) (heldIn (heldBy x) (x .room)))) (length out) (omega (arith, total-is))))))
 
       pub hand-done : total ≤ length out → (out′ : List ℕ) → out′ ≡ laid (tagsOf n (nextBy x) (heldIn count (x .room))) out → (left : ℕ) (room′ : List ℕ)
           → TakesOut (λ w. eqb (w .slot) (nextBy x)) count (x .room) left room′ → (c : List ℕ) → c ≡ (nextBy x + 1) ∷ left ∷ joinedBy x ∷ []
@@ -56,7 +61,7 @@ module _ (n : ℕ) (x : Lent) (out : List ℕ) where
       unfolding checks bookOf after answer advanced cursorAfter cursorOf rowsAfter numberOf handOutOf
       hand-done k out′ o left room′ y c ic =
           let holds : Holds (checks n (bookOf x) (handOut (length out))) =
-          also 17 _ _ (le-leb (nextBy x) lastSlot h) (also 24 _ _ (sym may ∙ not-false t q) (also 22 _ _ (le-leb (length (tagsOf n (nextBy x) (heldIn (heldBy x) (x .room)))) (length out) (omega (arith, total-is))) nothing)) in
+          also 17 _ _ (le-leb (nextBy x) lastOut h) (also 24 _ _ (sym may ∙ not-false t q) (also 22 _ _ (le-leb (length (tagsOf n (nextBy x) (heldIn (heldBy x) (x .room)))) (length out) (omega (arith, total-is))) nothing)) in
           let e = step-holds n (bookOf x) (handOut (length out)) holds in
           record {
             tells = done n x (handOut (length out)) (lending c (x .rows) room′) holds record {

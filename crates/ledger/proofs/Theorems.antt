@@ -1,14 +1,14 @@
 -- What is proved of the ledger. The statements about books hold for every number of senders n and every list of steps, refused ones among
 -- them; those about the code cite its promises alone. The proofs are in the other files. Assumes nothing.
 use mathlib.Core.Path.{_≡_, refl, ap, sym, _∙_}
-use Prim.Native.Nat.{ℕ, _+_, _≤_, _<_}
+use Prim.Native.Nat.{ℕ, _+_, _-_, _≤_, _<_, max}
 use mathlib.Core.Bool.{Bool, false}
 use mathlib.Core.List.{List, [], _∷_, map}
 use lib.ListN.{length}
 use Rattle.published.specs.Rounds as rounds
 use Rattle.published.specs.Rounds.{find, found, chosen, runFrom, newRun}
 use Rattle.ledger.specs.declared.HandOut.{HandOut}
-use Rattle.book.specs.Book.{mostHeld, Sweep, tagsOf, joined, Book, newBook, Step, end, answer, step}
+use Rattle.book.specs.Book.{lastSlot, mostHeld, Sweep, tagsOf, joined, Book, newBook, Step, end, answer, step}
 use Rattle.book.specs.Traffic.{bookFrom, answersFrom, tagsFrom, accepted, dropped, handedOut, inOrder, along, tally}
 use Rattle.ledger.specs.Seen.{roomWords, Lent, lending, nextBy, heldBy, rowsBy, sweepsBy, bookOf}
 use Rattle.ledger.specs.Promises.{Tells, Hands, Begins}
@@ -21,6 +21,7 @@ use Rattle.book.proofs.Numbers as numbers
 use Rattle.book.specs.Refusals.{refusals}
 use Rattle.book.proofs.Kept as kept
 use Rattle.book.proofs.Kept.{Kept, kept-new, kept-from}
+use Rattle.book.proofs.Next as next
 use Rattle.book.proofs.Accounts as accounts
 use Rattle.book.proofs.Joint as joins
 use Rattle.ledger.proofs.Made as made
@@ -53,9 +54,22 @@ module _ (n begin : ℕ) where
   pub few-held : (l : List Step) → length (bookFrom n (newBook begin) l .held) ≤ mostHeld
   few-held l = kept.kept-few n (bookFrom n (newBook begin) l) (kept-of l)
 
+  -- The next slot is not above the greater of a sender's first slot and the slot before its open one, while it has no end.
+  pub next-behind : (l : List Step) (s f o : ℕ) → bookFrom n (newBook begin) l .rows s ≡ joined f o → bookFrom n (newBook begin) l .next ≤ max f (o - 1)
+  next-behind l = kept.kept-behind n (bookFrom n (newBook begin) l) (kept-of l)
+
+  -- So an end at its open slot or the one before, and not below its first, is done: another bench, which missed the last closing, may have proposed that one.
+  pub late-end : (l : List Step) (s f o e : ℕ) → bookFrom n (newBook begin) l .rows s ≡ joined f o → max f (o - 1) ≤ e → e ≤ o → step n (bookFrom n (newBook begin) l) (end s e) .number ≡ 0
+  late-end l = kept.late-end n (bookFrom n (newBook begin) l) (kept-of l)
+
   -- The next slot is not above the open slot of a sender without end.
   pub next-below-open : (l : List Step) (s f o : ℕ) → bookFrom n (newBook begin) l .rows s ≡ joined f o → bookFrom n (newBook begin) l .next ≤ o
   next-below-open l s f o e = kept.kept-open n (bookFrom n (newBook begin) l) (kept-of l) s f o e .0
+
+  -- The next slot never passes the last one that can be closed.
+  pub next-within : begin ≤ lastSlot → (l : List Step) → bookFrom n (newBook begin) l .next ≤ lastSlot
+  unfolding newBook
+  next-within h l = next.next-from n (newBook begin) h l
 
   -- Every sweep held is one of senders 1 to n, lies in the next slot or a later one, between its sender's first and open slot, and below its end.
   pub held-lie : (l : List Step) → All (Holding n (bookFrom n (newBook begin) l .next) (bookFrom n (newBook begin) l .rows)) (bookFrom n (newBook begin) l .held)
@@ -106,6 +120,16 @@ module _ (n begin : ℕ) (cursor : List ℕ) (rows : List (List ℕ)) (room : Li
   pub count-is-held : (heldBy x ≡ length (sweepsBy x)) × (heldBy x ≤ roomWords)
   unfolding bookOf
   count-is-held = (made-of .count-is, made.made-few n x made-of)
+
+  -- The cursor's next slot is not above the greater of a sender's first slot and the slot before its open one, while it has no end.
+  pub calls-behind : (s f o : ℕ) → rowsBy x s ≡ joined f o → nextBy x ≤ max f (o - 1)
+  unfolding bookOf
+  calls-behind = kept.kept-behind n (bookOf x) (made-of .kept)
+
+  -- So a call that ends it at its open slot or the one before, and not below its first, returns 0.
+  pub calls-late-end : (s f o e : ℕ) → rowsBy x s ≡ joined f o → max f (o - 1) ≤ e → e ≤ o → (r : ℕ) (y : Lent) → Tells n x (end s e) r y → r ≡ 0
+  unfolding bookOf
+  calls-late-end s f o e q u v r y ends = ends .number-is ∙ kept.late-end n (bookOf x) (made-of .kept) s f o e q u v
 
   -- The cursor's next slot is not above the open slot of a sender without end.
   pub calls-below-open : (s f o : ℕ) → rowsBy x s ≡ joined f o → nextBy x ≤ o

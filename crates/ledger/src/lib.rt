@@ -23,6 +23,9 @@ pub use joining::row_of;
 pub use sweeping::end;
 pub use sweeping::sweep;
 
+// The last slot that is ever handed out: `lastOut` of `book`.
+pub const LAST_OUT: u32 = 65533;
+
 // How many sweeps can be held: `mostHeld` of `book`.
 pub const ROOM: usize = 1024;
 

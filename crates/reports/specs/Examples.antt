@@ -66,7 +66,7 @@ endedOutput = textOf (
     "bench=16 state=failed round=0 value=none" ∷
     "lines=11 refused=3" ∷ [])
 
--- ---- a ledger script with P9 and P10 of document 01 in it
+-- ---- a ledger script with P9 and P10 in it
 
 abbrev pub scriptInput : List ℕ
 scriptInput = textOf (
@@ -78,9 +78,12 @@ scriptInput = textOf (
     "step=close sender=1" ∷
     "step=close sender=2" ∷
     "step=handout room=2" ∷
+    "step=close sender=1" ∷
+    "step=close sender=2" ∷
+    "step=handout room=2" ∷
     "step=handout room=3" ∷
     "step=sweep sender=1" ∷
-    "step=end sender=1 slot=2" ∷
+    "step=end sender=1 slot=3" ∷
     "step=end sender=1 slot=1" ∷
     "step=end sender=1 slot=1" ∷
     "step=close sender=2" ∷
@@ -95,15 +98,18 @@ scriptOutput = textOf (
     "line=5 answer=0" ∷
     "line=6 answer=0" ∷
     "line=7 answer=0" ∷
-    "line=8 answer=22" ∷
-    "line=9 answer=0 count=3 tags=98,99,97" ∷
-    "line=10 answer=20" ∷
-    "line=11 answer=18" ∷
-    "line=12 answer=0" ∷
-    "line=13 answer=16" ∷
-    "line=14 answer=0" ∷
-    "line=15 answer=0 count=0" ∷
-    "sender=1 first=0 open=1 end=1" ∷
-    "sender=2 first=0 open=2 end=none" ∷
+    "line=8 answer=24" ∷
+    "line=9 answer=0" ∷
+    "line=10 answer=0" ∷
+    "line=11 answer=22" ∷
+    "line=12 answer=0 count=3 tags=98,99,97" ∷
+    "line=13 answer=20" ∷
+    "line=14 answer=18" ∷
+    "line=15 answer=0" ∷
+    "line=16 answer=16" ∷
+    "line=17 answer=0" ∷
+    "line=18 answer=0 count=0" ∷
+    "sender=1 first=0 open=2 end=1" ∷
+    "sender=2 first=0 open=3 end=none" ∷
     "next=2 held=0" ∷
-    "lines=15 refused=4" ∷ [])
+    "lines=18 refused=5" ∷ [])

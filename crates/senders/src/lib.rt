@@ -1,10 +1,8 @@
 // What a ledger knows of a sender, by value and as three words: what its row says, and the row after a close and after an end. In table.rt
 // the rows of all senders, and the set of those that have joined.
 ghost use mathlib.Core.Path.{_≡_};
-ghost use mathlib.Core.Bool.{not, _||_};
 ghost use Prim.Native.Nat.{suc};
-ghost use lib.Dec.{ltb};
-ghost use Rattle.book.specs.Book.{joined, ended, hasJoined, isOpen, firstSlot, openSlot, isMember};
+ghost use Rattle.book.specs.Book.{joined, ended, hasJoined, isOpen, firstSlot, openSlot, isMember, doneWith};
 ghost use Rattle.senders.specs.Rows.{rowIs};
 ghost use Rattle.senders.specs.Words.{slotIn, rowIn, wordsOf};
 use kinds::PLACES;
@@ -12,10 +10,10 @@ use kinds::SlotNo;
 
 mod table; // table.rt: the rows of all senders
 
-pub use table::may_go;
+pub use table::all_closed;
 pub use table::row_at;
 
-// The last slot that is ever handed out: `lastSlot` of `book`.
+// The last slot that is ever closed: `lastSlot` of `book`.
 pub const LAST_SLOT: u32 = 65534;
 
 // The words of the row of a sender that has joined: its first slot, its open slot, and its end + 1, or 0 where it has none.
@@ -169,8 +167,8 @@ pub fn is_member(row: Row, n: SlotNo) -> bool
 }
 
 // Whether the sender is no member of slot n, or has closed it.
-pub fn lets_go(row: Row, n: SlotNo) -> bool
-    ensures { λ r. ⌜ r ≡ (not (isMember (n .0) (rowIs row)) || ltb (n .0) (openSlot (rowIs row))) ⌝ }
+pub fn done_with(row: Row, n: SlotNo) -> bool
+    ensures { λ r. ⌜ r ≡ doneWith (n .0) (rowIs row) ⌝ }
 {
     if !is_member(row, n) {
         return true;

@@ -1,4 +1,4 @@
--- `senders::table::may_go` meets its contract: the visit stops at the first row that holds the slot up, and where nobody further has joined.
+-- `senders::table::all_closed` meets its contract: the visit stops at the first row that holds a slot up, and where nobody further has joined.
 use native.Mathlib.Omega.{arith}
 use Prim.Native.Nat.{_-_, _<_}
 use mathlib.Core.Path.{refl}
@@ -7,14 +7,14 @@ use Rattle.common.specs.Benches.{every}
 use Rattle.senders.specs.Rows.{rowIs}
 use Rattle.senders.proofs.Going.{Going, going-out, going-next, none-left, held-up, all-go}
 use borrow.Author.Needs.{needs}
-use Rattle.senders.proofs.table.may_go.Statement.{statement}
-use Rattle.senders.proofs.table.may_go.Tie as tie
+use Rattle.senders.proofs.table.all_closed.Statement.{statement}
+use Rattle.senders.proofs.table.all_closed.Tie as tie
 
 abbrev Inv-loop : tie.InvT-loop
-Inv-loop joined rows n many rest₀ i₀ rest i = Going many (n .0) joined rows rest i
+Inv-loop joined rows n after many rest₀ i₀ rest i = Going many (n .0) (after .0) joined rows rest i
 
 abbrev μ-loop : tie.MeasureT-loop
-μ-loop joined rows n many rest₀ i₀ rest i = many - i
+μ-loop joined rows n after many rest₀ i₀ rest i = many - i
 
 full-requires : tie.Need-full-requires Inv-loop μ-loop
 full-requires c κs = search needs
@@ -60,14 +60,14 @@ loop-again c =
     let l = c .before .before .before .loop in
     let h : l .i < m .result = omega arith in
     ⊎-elim
-    (λ w. going-next (m .result) (z .n .0) (z .joined) (z .rows .now) (l .rest) (l .i) (l .inv) h (m .ensures .1) (c .before .before .before .before .before .full .ensures) (w .0 .taken) (rowIs (w .2 .result)) (w .2 .ensures) (w .3 .result) (w .3 .ensures) (w .4 .left))
-    (λ w. going-out (m .result) (z .n .0) (z .joined) (z .rows .now) (l .rest) (l .i) (l .inv) h (w .left)) (c .if2 .came)
+    (λ w. going-next (m .result) (z .n .0) (z .after .0) (z .joined) (z .rows .now) (l .rest) (l .i) (l .inv) h (m .ensures .1) (c .before .before .before .before .before .full .ensures) (w .0 .taken) (rowIs (w .2 .result)) (w .2 .ensures) (w .3 .result) (w .3 .ensures) (w .4 .left))
+    (λ w. going-out (m .result) (z .n .0) (z .after .0) (z .joined) (z .rows .now) (l .rest) (l .i) (l .inv) h (w .left)) (c .if2 .came)
 
 returns-3 : tie.Need-returns-3 Inv-loop μ-loop
 returns-3 c = search all-go
 
-pub may-go-spec : {M : Type 1} → statement M
-may-go-spec =
+pub all-closed-spec : {M : Type 1} → statement M
+all-closed-spec =
     tie.close
     (tie.spec
     Inv-loop
