@@ -170,11 +170,11 @@ def script_full():
 
 
 def script_hand_outs():
-    """Many hand-outs: four senders, in each slot a sweep and a close of each, then the slot is handed out with its four tags."""
+    """Many hand-outs: four senders, in each slot a sweep and a close of each, then the slot before it is handed out with its four tags."""
     joins = [f"step=join sender={s} slot=0" for s in (1, 2, 15, 16)]
     slot = [f"step=sweep sender={s} tag={1000 * s}" for s in (16, 2, 15, 1)]
     slot += [f"step=close sender={s}" for s in (1, 2, 15, 16)]
-    return filled(joins, [*slot, "step=handout room=1024"])
+    return filled(joins + slot, [*slot, "step=handout room=1024"])
 
 
 def script_empty_slots():
@@ -183,10 +183,11 @@ def script_empty_slots():
 
 
 def script_held():
-    """Hand-outs from a full store: sender 2 holds 1,023 sweeps for later slots while the slots of sender 1, one sweep each, are handed out."""
-    head = ["step=join sender=1 slot=0", "step=join sender=2 slot=60000"]
-    head += ["step=sweep sender=2 tag=7"] * 1023
-    return filled(head, ["step=sweep sender=1 tag=8", "step=close sender=1", "step=handout room=1024"])
+    """Hand-outs from a full store: sender 2 holds 1,022 sweeps for later slots while the slots of sender 1, one sweep each, are handed out, each
+    when the one after it is closed."""
+    slot = ["step=sweep sender=1 tag=8", "step=close sender=1"]
+    head = ["step=join sender=1 slot=0", "step=join sender=2 slot=60000", *["step=sweep sender=2 tag=7"] * 1022, *slot]
+    return filled(head, [*slot, "step=handout room=1024"])
 
 
 def script_malformed():

@@ -190,10 +190,11 @@ class Examples(Case):
     def test_p9(self):
         self.ledger_case("""
             join 1 0 -> 0 ; join 2 0 -> 0 ; sweep 2 97 -> 0 ; sweep 1 98 -> 0 ; sweep 1 99 -> 0
-            close 1 -> 0 ; close 2 -> 0 ; handout 3 -> 0 count=3 tags=98,99,97
+            close 1 -> 0 ; close 2 -> 0 ; close 1 -> 0 ; close 2 -> 0
+            handout 3 -> 0 count=3 tags=98,99,97
             ---
-            sender=1 first=0 open=1 end=none
-            sender=2 first=0 open=1 end=none
+            sender=1 first=0 open=2 end=none
+            sender=2 first=0 open=2 end=none
             next=1 held=0
         """)
 
@@ -631,24 +632,88 @@ class LedgerRules(Case):
 
     def test_slots_without_members_are_handed_out_empty(self):
         self.ledger_case("""
-            handout 0 -> 0 count=0 ; join 1 0 -> 14 ; join 1 2 -> 0 ; sweep 1 0 -> 0
-            handout 0 -> 0 count=0 ; handout 0 -> 24 ; close 1 -> 0 ; handout 0 -> 22
-            handout 1 -> 0 count=1 tags=0
+            handout 0 -> 0 count=0 ; join 1 0 -> 14 ; join 1 3 -> 0 ; sweep 1 0 -> 0
+            handout 0 -> 0 count=0 ; handout 0 -> 24 ; close 1 -> 0 ; handout 0 -> 0 count=0
+            handout 0 -> 24 ; close 1 -> 0 ; handout 0 -> 22 ; handout 1 -> 0 count=1 tags=0
             ---
-            sender=1 first=2 open=3 end=none
-            next=3 held=0
+            sender=1 first=3 open=5 end=none
+            next=4 held=0
+        """)
+
+    def test_a_slot_waits_for_the_one_after_it(self):
+        start = """
+            join 1 0 -> 0 ; join 2 0 -> 0 ; sweep 1 10 -> 0 ; sweep 2 20 -> 0 ; close 2 -> 0
+            handout 9 -> 24 ; close 1 -> 0 ; handout 9 -> 24 ; sweep 1 11 -> 0 ; sweep 2 21 -> 0
+            close 1 -> 0 ; handout 9 -> 24 ; close 2 -> 0 ; handout 9 -> 0 count=2 tags=10,20
+        """
+        self.ledger_case(start + """
+            ---
+            sender=1 first=0 open=2 end=none
+            sender=2 first=0 open=2 end=none
+            next=1 held=2
+        """)
+        self.ledger_case(start + """
+            handout 9 -> 24 ; close 1 -> 0 ; handout 9 -> 24 ; close 2 -> 0
+            handout 9 -> 0 count=2 tags=11,21
+            ---
+            sender=1 first=0 open=3 end=none
+            sender=2 first=0 open=3 end=none
+            next=2 held=0
+        """)
+
+    def test_a_member_of_the_slot_after_it_alone_holds_a_slot_up(self):
+        self.ledger_case("""
+            join 1 0 -> 0 ; sweep 1 10 -> 0 ; close 1 -> 0 ; close 1 -> 0 ; join 3 2 -> 0
+            join 2 1 -> 0 ; sweep 2 21 -> 0 ; handout 9 -> 24 ; close 2 -> 0
+            handout 9 -> 0 count=1 tags=10 ; handout 9 -> 24
+            ---
+            sender=1 first=0 open=2 end=none
+            sender=2 first=1 open=2 end=none
+            sender=3 first=2 open=2 end=none
+            next=1 held=1
+        """)
+
+    def test_a_slot_without_members_waits_for_the_one_after_it(self):
+        self.ledger_case("""
+            join 1 1 -> 0 ; handout 0 -> 24 ; close 1 -> 0 ; handout 0 -> 0 count=0 ; handout 0 -> 24
+            ---
+            sender=1 first=1 open=2 end=none
+            next=1 held=0
+        """)
+        self.ledger_case("""
+            join 1 1 -> 0 ; handout 0 -> 24 ; end 1 1 -> 0 ; handout 0 -> 0 count=0
+            ---
+            sender=1 first=1 open=1 end=1
+            next=1 held=0
+        """)
+
+    def test_the_colleges_case(self):
+        # bench 5 lacks sender 2's closing of 30, and 30 is decided; bench 4 has it, and has not handed 30 out
+        self.ledger_case("handout 0 -> 0 count=0\n" * 29 + """
+            join 2 29 -> 0 ; join 4 29 -> 0 ; join 5 29 -> 0
+            sweep 2 229 -> 0 ; sweep 4 429 -> 0 ; sweep 5 529 -> 0 ; close 2 -> 0 ; close 4 -> 0 ; close 5 -> 0
+            sweep 2 230 -> 0 ; sweep 4 430 -> 0 ; sweep 5 530 -> 0 ; close 2 -> 0 ; close 4 -> 0 ; close 5 -> 0
+            handout 16 -> 0 count=3 tags=229,429,529 ; handout 16 -> 24 ; end 2 30 -> 0 ; handout 16 -> 24
+            sweep 4 431 -> 0 ; sweep 5 531 -> 0 ; close 4 -> 0 ; close 5 -> 0
+            handout 16 -> 0 count=2 tags=430,530
+            ---
+            sender=2 first=29 open=31 end=30
+            sender=4 first=29 open=32 end=none
+            sender=5 first=29 open=32 end=none
+            next=31 held=2
         """)
 
     def test_order_of_tags(self):
         self.ledger_case("""
             join 16 0 -> 0 ; join 2 0 -> 0 ; join 10 0 -> 0 ; sweep 16 5 -> 0
             sweep 10 4294967295 -> 0 ; sweep 2 9 -> 0 ; sweep 16 4 -> 0 ; sweep 2 9 -> 0
-            close 16 -> 0 ; sweep 16 6 -> 0 ; sweep 2 1 -> 0 ; close 2 -> 0 ; handout 6 -> 24
-            close 10 -> 0 ; handout 5 -> 22 ; handout 6 -> 0 count=6 tags=9,9,1,4294967295,5,4
+            close 16 -> 0 ; sweep 16 6 -> 0 ; sweep 2 1 -> 0 ; close 2 -> 0 ; close 10 -> 0
+            close 16 -> 0 ; close 2 -> 0 ; handout 6 -> 24 ; close 10 -> 0 ; handout 5 -> 22
+            handout 6 -> 0 count=6 tags=9,9,1,4294967295,5,4
             ---
-            sender=2 first=0 open=1 end=none
-            sender=10 first=0 open=1 end=none
-            sender=16 first=0 open=1 end=none
+            sender=2 first=0 open=2 end=none
+            sender=10 first=0 open=2 end=none
+            sender=16 first=0 open=2 end=none
             next=1 held=1
         """)
 
@@ -656,11 +721,11 @@ class LedgerRules(Case):
         self.ledger_case("""
             join 1 0 -> 0 ; join 2 0 -> 0 ; sweep 1 10 -> 0 ; close 1 -> 0 ; sweep 1 11 -> 0
             close 1 -> 0 ; sweep 1 12 -> 0 ; sweep 2 20 -> 0 ; close 2 -> 0 ; sweep 2 21 -> 0
-            end 1 1 -> 0 ; handout 9 -> 0 count=2 tags=10,20 ; handout 9 -> 24 ; close 2 -> 0
-            handout 9 -> 0 count=1 tags=21
+            end 1 1 -> 0 ; handout 9 -> 24 ; close 2 -> 0 ; handout 9 -> 0 count=2 tags=10,20
+            handout 9 -> 24 ; close 2 -> 0 ; handout 9 -> 0 count=1 tags=21
             ---
             sender=1 first=0 open=2 end=1
-            sender=2 first=0 open=2 end=none
+            sender=2 first=0 open=3 end=none
             next=2 held=0
         """)
 
@@ -675,10 +740,42 @@ class LedgerRules(Case):
     def test_end_of_a_sender_that_holds_up_the_next_slot(self):
         self.ledger_case("""
             join 1 0 -> 0 ; join 2 0 -> 0 ; sweep 1 1 -> 0 ; sweep 2 2 -> 0 ; close 2 -> 0
-            handout 2 -> 24 ; end 1 0 -> 0 ; handout 2 -> 0 count=1 tags=2
+            close 2 -> 0 ; handout 2 -> 24 ; end 1 0 -> 0 ; handout 2 -> 0 count=1 tags=2
             ---
             sender=1 first=0 open=0 end=0
-            sender=2 first=0 open=1 end=none
+            sender=2 first=0 open=2 end=none
+            next=1 held=0
+        """)
+
+    def test_a_sender_that_ended_at_the_slot_after_it_does_not_hold_a_slot_up(self):
+        self.ledger_case("""
+            join 1 0 -> 0 ; join 2 0 -> 0 ; sweep 1 10 -> 0 ; close 1 -> 0 ; sweep 1 11 -> 0
+            sweep 2 20 -> 0 ; close 2 -> 0 ; close 2 -> 0 ; handout 9 -> 24 ; end 1 1 -> 0
+            handout 9 -> 0 count=2 tags=10,20
+            ---
+            sender=1 first=0 open=1 end=1
+            sender=2 first=0 open=2 end=none
+            next=1 held=0
+        """)
+
+    def test_an_end_lets_two_slots_go_out(self):
+        self.ledger_case("""
+            join 1 0 -> 0 ; join 2 0 -> 0 ; sweep 1 10 -> 0 ; sweep 2 20 -> 0 ; close 2 -> 0
+            sweep 2 21 -> 0 ; close 2 -> 0 ; sweep 2 22 -> 0 ; close 2 -> 0 ; handout 9 -> 24
+            end 1 0 -> 0 ; handout 9 -> 0 count=1 tags=20 ; handout 9 -> 0 count=1 tags=21
+            handout 9 -> 24
+            ---
+            sender=1 first=0 open=0 end=0
+            sender=2 first=0 open=3 end=none
+            next=2 held=1
+        """)
+
+    def test_24_comes_before_22(self):
+        self.ledger_case("""
+            join 1 0 -> 0 ; sweep 1 1 -> 0 ; handout 0 -> 24 ; close 1 -> 0 ; handout 0 -> 24
+            close 1 -> 0 ; handout 0 -> 22 ; handout 1 -> 0 count=1 tags=1
+            ---
+            sender=1 first=0 open=2 end=none
             next=1 held=0
         """)
 
@@ -716,16 +813,19 @@ class LedgerRules(Case):
                             ("sweep sender=3 tag=3", "17"), ("sweep sender=4 tag=3", "15"),
                             ("sweep sender=17 tag=3", "1"), ("close sender=1", "0"),
                             ("sweep sender=1 tag=4", "25"), ("end sender=2 slot=0", "0"),
-                            ("sweep sender=1 tag=5", "0"), ("handout room=999", "22"),
+                            ("sweep sender=1 tag=5", "0"), ("handout room=999", "24"),
+                            ("close sender=1", "0"), ("handout room=999", "22"),
                             ("handout room=1000", "0 count=1000 tags=" + ",".join(["1"] * 1000)),
                             ("close sender=1", "0"), ("handout room=99999", "0 count=1 tags=5")):
             rows.append("step=" + row)
             answers.append(answer)
-        rows += ["step=sweep sender=1 tag=6"] * 1025 + ["step=close sender=1", "step=handout room=1023",
+        rows += ["step=sweep sender=1 tag=6"] * 1025 + ["step=close sender=1", "step=handout room=99999",
+                                                        "step=close sender=1", "step=handout room=1023",
                                                         "step=handout room=99999"]
-        answers += ["0"] * 1024 + ["25", "0", "22", "0 count=1024 tags=" + ",".join(["6"] * 1024)]
-        expected = report(answers, ["sender=1 first=0 open=3 end=none", "sender=2 first=0 open=0 end=0",
-                                    "sender=3 first=65534 open=65535 end=none", "next=3 held=0"])
+        answers += ["0"] * 1024 + ["25", "0", "0 count=0", "0", "22",
+                                   "0 count=1024 tags=" + ",".join(["6"] * 1024)]
+        expected = report(answers, ["sender=1 first=0 open=5 end=none", "sender=2 first=0 open=0 end=0",
+                                    "sender=3 first=65534 open=65535 end=none", "next=4 held=0"])
         self.assertEqual(play("ledger", "\n".join(rows).encode()), expected)
 
     def test_malformed_lines(self):

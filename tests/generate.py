@@ -742,10 +742,9 @@ class Ledger:
         return sum(held.get(n, 0) for held in self.held)
 
     def laggard(self):
-        """A sender that has not closed the next slot though it is a member, or None."""
-        n = self.next
+        """A sender that has the next slot or the one after it open, or None."""
         for s, slot in self.open.items():
-            if slot <= n and self.first[s] <= n:
+            if slot <= self.next + 1:
                 return s
         return None
 
@@ -769,7 +768,7 @@ def tag(rng):
 
 
 def refused_ledger_step(ledger):
-    """Writes one ledger step that is refused most of the time."""
+    """Writes one ledger step that is refused most of the time; a join before it, where one is wanted."""
     rng, rnd = ledger.rng, ledger.rng.random
     s, pick, n = 1 + int(rnd() * 16), int(rnd() * 13), ledger.next
     if pick == 0:
@@ -798,6 +797,10 @@ def refused_ledger_step(ledger):
     elif pick == 8:
         ledger.rows.append(chance(rng, *LEDGER_MALFORMED))
     elif pick in (9, 10) and ledger.laggard() is not None:
+        ledger.hand_out(chance(rng, 0, 1024, 99999))
+    elif pick == 10 and len(ledger.first) < 16 and rnd() < 0.2:  # who joins now holds n up alone
+        absent = [o for o in NUMBERS if o not in ledger.first]
+        ledger.join(chance(rng, *absent), n + chance(rng, 0, 1, 1))
         ledger.hand_out(chance(rng, 0, 1024, 99999))
     elif ledger.laggard() is None and ledger.count():
         ledger.hand_out(chance(rng, 0, ledger.count() - 1))
@@ -876,6 +879,10 @@ def ledger_full(rng, lines):
     high = chance(rng, *[s for s in NUMBERS if s not in senders])
     if rnd() < 0.5:  # its open slot becomes 65,535, and stays out of ledger.open below
         ledger.rows += [f"step=join sender={high} slot=65534", f"step=close sender={high}"]
+    for s in senders:  # each is a slot ahead, so that a slot can be handed out whenever all close
+        for _ in range(int(rnd() * 200)):
+            ledger.sweep(s, int(rnd() * 10))
+        ledger.close(s)
     while len(ledger.rows) < min(lines, 2600):
         if not ledger.open:
             ledger.hand_out(1024)
@@ -926,7 +933,7 @@ def ledger_dense(rng, lines):
     rnd, rows = rng.random, []
     senders = shuffled(rng, NUMBERS)[: 1 + int(rnd() * 3)]
     top = chance(rng, 2, 4, 8)
-    kinds = (["join"] + ["end"] + ["sweep"] * 16 + ["close"] * chance(rng, 6, 12)
+    kinds = (["join"] + ["end"] + ["sweep"] * 16 + ["close"] * chance(rng, 8, 14)
              + ["handout"] * chance(rng, 2, 6, 12))
     todo = ["join"] * chance(rng, 0, len(senders), 2 * len(senders))
     for _ in range(min(lines, int(20 + rnd() * 100))):
@@ -955,7 +962,7 @@ LEDGER_FRAGMENTS = {
     17: ["sweep sender={h} tag=1", "close sender={h}"],
     18: ["end sender={a} slot=65535", "end sender={b} slot=99999"],
     19: ["end sender={a} slot=0", "end sender={h} slot=0"],
-    24: ["handout room=0", "handout room=1024"],
+    24: ["handout room=0"],
     22: ["sweep sender={b} tag=5", "sweep sender={a} tag=6", "close sender={b}", "close sender={a}",
          "handout room=1", "handout room=0", "handout room=2"],
 }
@@ -963,15 +970,17 @@ LEDGER_FRAGMENTS = {
 
 def ledger_refusals(rng, lines):
     """Every refusal number a script can meet but 25, by fragments in changing order."""
-    names = dict(zip("abeho", map(str, shuffled(rng, NUMBERS))))
-    order = ["a", "b", "e"]
-    rows = [f"join sender={names[n]} slot=0" for n in shuffled(rng, order)]
-    rows += [f"close sender={names[n]}" for n in shuffled(rng, order)]
-    rows += ["handout room=0", f"end sender={names['e']} slot=1",
-             f"join sender={names['h']} slot=65534", f"close sender={names['h']}"]
+    def each(step, rest=""):
+        return [f"{step} sender={{{name}}}{rest}" for name in shuffled(rng, "abe")]
+
+    names = dict(zip("abehlo", map(str, shuffled(rng, NUMBERS))))
+    rows = each("join", " slot=0") + ["handout room=1024"]
+    rows += each("close") + each("sweep", " tag=4") + each("close")
+    rows += ["join sender={l} slot=1", "handout room=1024", "end sender={l} slot=1", "handout room=0",
+             "end sender={e} slot=1", "join sender={h} slot=65534", "close sender={h}"]
     for number in shuffled(rng, LEDGER_FRAGMENTS) + shuffled(rng, LEDGER_FRAGMENTS):
-        rows += [row.format(**names) for row in LEDGER_FRAGMENTS[number]]
-    rows = ["step=" + row for row in rows]
+        rows += LEDGER_FRAGMENTS[number]
+    rows = ["step=" + row.format(**names) for row in rows]
     for _ in range(4):
         rows.insert(int(rng.random() * len(rows)), chance(rng, *LEDGER_MALFORMED))
     return pack(rng, rows, lines)
