@@ -66,7 +66,7 @@ open-is (ended f o x) e = clash (cc)
 
 -- ---- a slot may go out exactly where every sender lets it go
 
-all-closed-get : (n k : ℕ) (rows : ℕ → Row) → allClosed n k rows ≡ true → (s : ℕ) → In n s → DoneWith k (rows s)
+pub all-closed-get : (n k : ℕ) (rows : ℕ → Row) → allClosed n k rows ≡ true → (s : ℕ) → In n s → DoneWith k (rows s)
 unfolding allClosed doneWith
 all-closed-get n k rows e s i c = let m = member-is k (rows s) c in
     is-closed k (rows s) m (implies (isMember k (rows s)) (ltb k (openSlot (rows s))) (every-get n _ s e i) m)

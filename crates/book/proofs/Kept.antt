@@ -14,12 +14,12 @@ use Rattle.common.proofs.Tests.{clash, split}
 use Rattle.common.proofs.Updates.{put-ind}
 use Rattle.common.specs.Benches.{In, isBench}
 use Rattle.common.proofs.Benches.{bench-in, in-bench}
-use Rattle.book.specs.Book.{lastSlot, mostHeld, Sweep, only, Row, unknown, joined, ended, openSlot, mayGo, Book, newBook, withRow, swept, cut, advanced, Step, join, sweep, close, end, handOut, answer, step}
-use Rattle.book.specs.Answers.{end-0}
+use Rattle.book.specs.Book.{lastSlot, mostHeld, Sweep, only, Row, unknown, joined, ended, openSlot, allClosed, mayGo, Book, newBook, withRow, swept, cut, advanced, Step, join, sweep, close, end, handOut, answer, step}
+use Rattle.book.specs.Answers.{DoneWith, end-0}
 use Rattle.book.specs.Sweeps.{Lies, Holding}
 use Rattle.book.specs.Traffic.{bookFrom}
 use Rattle.book.proofs.Only.{all-append, all-map, all-only, only-length}
-use Rattle.book.proofs.Answers.{may-go-get, given}
+use Rattle.book.proofs.Answers.{all-closed-get, may-go-get, may-go-make, given}
 use Rattle.book.proofs.Outcomes.{join-ind, sweep-ind, close-ind, end-ind, handOut-ind}
 
 -- the row of a sender, at next slot k: its open slot is not below its first; without an end, k is not above the greater of its first slot and the
@@ -179,6 +179,15 @@ module _ (n : ℕ) (b : Book) (h : Kept n b) where
   pub late-end : (s f o e : ℕ) → b .rows s ≡ joined f o → max f (o - 1) ≤ e → e ≤ o → step n b (end s e) .number ≡ 0
   unfolding Kept
   late-end s f o e q u v = let g = kept-behind s f o q in given n b (end s e) 0 (end-0 s e f o (sender-in n b h s f o q) q v (omega arith))
+
+  -- whoever is done with the slot after is done with the slot: an end is not above the open slot
+  pub after-enough : (k : ℕ) → allClosed n (suc k) (b .rows) ≡ true → mayGo n k (b .rows) ≡ true
+  unfolding Kept
+  after-enough k e = may-go-make n k (b .rows) λ s i. let d = all-closed-get n (suc k) (b .rows) e s i in (earlier (b .rows s) (h .stands s) d, d)
+    where
+      earlier : (r : Row) → Stands (b .next) r → DoneWith (suc k) r → DoneWith k r
+      earlier (joined f o) g d c = let z = d (omega arith) in omega arith
+      earlier (ended f o e) g d c = let x = c .1 in omega arith
 
   -- no open slot is above 65,535
   pub kept-slot : (s : ℕ) → openSlot (b .rows s) ≤ suc lastSlot

@@ -1,14 +1,14 @@
 -- What is proved of the ledger. The statements about books hold for every number of senders n and every list of steps, refused ones among
 -- them; those about the code cite its promises alone. The proofs are in the other files. Assumes nothing.
 use mathlib.Core.Path.{_≡_, refl, ap, sym, _∙_}
-use Prim.Native.Nat.{ℕ, _+_, _-_, _≤_, _<_, max}
-use mathlib.Core.Bool.{Bool, false}
+use Prim.Native.Nat.{ℕ, suc, _+_, _-_, _≤_, _<_, max}
+use mathlib.Core.Bool.{Bool, true, false}
 use mathlib.Core.List.{List, [], _∷_, map}
 use lib.ListN.{length}
 use Rattle.published.specs.Rounds as rounds
 use Rattle.published.specs.Rounds.{find, found, chosen, runFrom, newRun}
 use Rattle.ledger.specs.declared.HandOut.{HandOut}
-use Rattle.book.specs.Book.{lastSlot, mostHeld, Sweep, tagsOf, joined, Book, newBook, Step, end, answer, step}
+use Rattle.book.specs.Book.{lastSlot, mostHeld, Sweep, tagsOf, joined, allClosed, mayGo, Book, newBook, Step, end, answer, step}
 use Rattle.book.specs.Traffic.{bookFrom, answersFrom, tagsFrom, accepted, dropped, handedOut, inOrder, along, tally}
 use Rattle.ledger.specs.Seen.{roomWords, Lent, lending, nextBy, heldBy, rowsBy, sweepsBy, bookOf}
 use Rattle.ledger.specs.Promises.{Tells, Hands, Begins}
@@ -61,6 +61,10 @@ module _ (n begin : ℕ) where
   -- So an end at its open slot or the one before, and not below its first, is done: another bench, which missed the last closing, may have proposed that one.
   pub late-end : (l : List Step) (s f o e : ℕ) → bookFrom n (newBook begin) l .rows s ≡ joined f o → max f (o - 1) ≤ e → e ≤ o → step n (bookFrom n (newBook begin) l) (end s e) .number ≡ 0
   late-end l = kept.late-end n (bookFrom n (newBook begin) l) (kept-of l)
+
+  -- Where every member of the slot after it has closed that, a slot may go out: the other half of the rule then holds too.
+  pub after-enough : (l : List Step) (k : ℕ) → allClosed n (suc k) (bookFrom n (newBook begin) l .rows) ≡ true → mayGo n k (bookFrom n (newBook begin) l .rows) ≡ true
+  after-enough l = kept.after-enough n (bookFrom n (newBook begin) l) (kept-of l)
 
   -- The next slot is not above the open slot of a sender without end.
   pub next-below-open : (l : List Step) (s f o : ℕ) → bookFrom n (newBook begin) l .rows s ≡ joined f o → bookFrom n (newBook begin) l .next ≤ o
