@@ -1,4 +1,5 @@
--- When each number is answered: document 01's table and its order of checks, in facts of the senders' rows. This file is to be believed.
+-- When each number is answered: document 01's table and its order of checks, a hand-out's by document 02's W1, in facts of the senders' rows. This file
+-- is to be believed.
 use mathlib.Core.Path.{_≡_}
 use Prim.Native.Nat.{ℕ, suc, _≤_, _<_}
 use lib.ListN.{length}

@@ -1,5 +1,5 @@
--- The ledger of one bench, as document 01 states it, for senders 1 to n.
--- This file is to be believed: it says again, in document 01's words and order, what every promise about a ledger comes down to.
+-- The ledger of one bench, as document 01 states it and document 02's W1 changes it, for senders 1 to n.
+-- This file is to be believed: it says again, in the documents' words and order, what every promise about a ledger comes down to.
 use Prim.Native.Nat.{ℕ, zero, suc}
 use mathlib.Core.Bool.{Bool, true, false, cond, not, _&&_, _||_}
 use mathlib.Core.List.{List, [], _∷_, _++_, map}
@@ -75,7 +75,7 @@ doneWith k r = not (isMember k r) || ltb k (openSlot r)
 unfoldable pub allClosed : ℕ → ℕ → (ℕ → Row) → Bool
 allClosed n k rows = every n (λ s. doneWith k (rows s))
 
--- slot k may go out: every member of it has closed it, and every member of the slot after it has closed that
+-- slot k may go out (W1): every member of k has closed k, and every member of k + 1 has closed k + 1
 unfoldable pub mayGo : ℕ → ℕ → (ℕ → Row) → Bool
 mayGo n k rows = allClosed n k rows && allClosed n (suc k) rows
 

@@ -1,6 +1,6 @@
--- P1 to P10 of document 01 as one table, P9 as document 02's W1 changes it, and W1's own cases, over the definitions of steps, text and ledger. This file is to be believed: `examples` of proofs/Table.antt
--- says that the table holds. A world is written in binary: 0b011 is benches 1 and 2. Where an example is silent, values are 5 and all benches are in
--- the world.
+-- P1 to P10 of document 01 as one table, P9 as document 02's W1 changes it, and W1's own cases, over the definitions of steps, text and ledger.
+-- This file is to be believed: `examples` of proofs/Table.antt says that the table holds. A world is written in binary: 0b011 is benches 1 and 2.
+-- Where an example is silent, values are 5 and all benches are in the world.
 use Prim.Native.Nat.{ℕ}
 use Prim.Native.String.{String}
 use mathlib.Core.Bool.{Bool, true, false, _&&_}
