@@ -2,7 +2,8 @@
 # On another machine Debian's cross tools (gcc-x86-64-linux-gnu) make the same library.
 
 VERSION := $(shell cat VERSION)
-MAJOR := $(firstword $(subst ., ,$(VERSION)))
+# the number in the shared library's name: it changes where a program that was linked no longer works, or gets another report of a run text
+ABI := 1
 CRATE := run_report# the crate that exports the C function
 PREFIX := /usr/local
 
@@ -43,7 +44,7 @@ $(OUT)/libfunkenrille.a: $(OUT)/funkenrille.o
 	$(AR) rcsD $@ $<
 
 $(OUT)/$(SHARED): $(OUT)/funkenrille.o
-	$(CC) -shared -nostartfiles -Wl,-soname,libfunkenrille.so.$(MAJOR),-z,relro,-z,now,-z,noexecstack,--no-undefined -o $@ $<
+	$(CC) -shared -nostartfiles -Wl,-soname,libfunkenrille.so.$(ABI),-z,relro,-z,now,-z,noexecstack,--no-undefined -o $@ $<
 
 # made anew each time, since PREFIX may be another
 $(OUT)/funkenrille.pc: c/funkenrille.pc.in VERSION .ALWAYS
@@ -65,8 +66,8 @@ install: all
 	install -m 644 $(OUT)/funkenrille.h $(DESTDIR)$(PREFIX)/include/
 	install -m 644 $(OUT)/libfunkenrille.a $(DESTDIR)$(PREFIX)/lib/
 	install -m 755 $(OUT)/$(SHARED) $(DESTDIR)$(PREFIX)/lib/
-	ln -sf $(SHARED) $(DESTDIR)$(PREFIX)/lib/libfunkenrille.so.$(MAJOR)
-	ln -sf libfunkenrille.so.$(MAJOR) $(DESTDIR)$(PREFIX)/lib/libfunkenrille.so
+	ln -sf $(SHARED) $(DESTDIR)$(PREFIX)/lib/libfunkenrille.so.$(ABI)
+	ln -sf libfunkenrille.so.$(ABI) $(DESTDIR)$(PREFIX)/lib/libfunkenrille.so
 	install -m 644 $(OUT)/funkenrille.pc $(DESTDIR)$(PREFIX)/lib/pkgconfig/
 
 clean:

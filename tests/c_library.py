@@ -24,6 +24,7 @@ NATIVE = platform.machine() == "x86_64"
 CROSS, PACKAGE = ("", "gcc") if NATIVE else ("x86_64-linux-gnu-", "gcc-x86-64-linux-gnu")
 OURS = {"funkenrille_report", "funkenrille_version"}
 NEEDED = {"memcpy", "memset"}
+ABI = 1  # the number in the shared library's name, by which the Python example loads it
 C, CPP = ("gcc", "-std=c11"), ("g++", "-std=c++17")
 EXAMPLES = (("examples/c/play.c", C), ("examples/cpp/play.cpp", CPP))
 
@@ -91,7 +92,7 @@ def visible(installed):
             programs.stop(f"{path.name} shows {found[0]} and needs {found[1]}")
     name = re.search(r"SONAME\s+(\S+)", subprocess.run([CROSS + "objdump", "-p", shared], capture_output=True, text=True, check=True).stdout)[1]
     links = [(installed.lib / link).resolve() for link in (name, "libfunkenrille.so")]
-    if name != f"libfunkenrille.so.{version.split('.', maxsplit=1)[0]}" or links != [shared.resolve()] * 2 or installed.flags("--modversion") != [version]:
+    if name != f"libfunkenrille.so.{ABI}" or links != [shared.resolve()] * 2 or installed.flags("--modversion") != [version]:
         programs.stop(f"version {version}: SONAME {name}, links {links}, pkg-config {installed.flags('--modversion')}")
     print("c_library: archive and shared library show funkenrille_report and funkenrille_version alone")
 
@@ -139,7 +140,7 @@ def examples(installed):
     if f"REPORT_MAX = {longest} " not in python.read_text():
         programs.stop("examples/python/play.py and the header have different bounds")
     if NATIVE:
-        example([sys.executable, str(python), str(installed.lib / "libfunkenrille.so.1")], "examples/python/play.py")
+        example([sys.executable, str(python), str(installed.lib / f"libfunkenrille.so.{ABI}")], "examples/python/play.py")
     else:
         print("c_library: examples/python/play.py is not run, since Python here is not x86-64")
 

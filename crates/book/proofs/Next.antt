@@ -1,5 +1,5 @@
 -- The next slot never passes the last one that can be closed: the last that is handed out is the one before it. Assumes nothing.
-use Prim.Native.Nat.{ℕ, suc, _≤_}
+use Prim.Native.Nat.{ℕ, _≤_}
 use mathlib.Core.List.{List, [], _∷_}
 use native.Mathlib.Omega.{arith}
 use Rattle.book.specs.Book.{lastSlot, Book, withRow, swept, cut, advanced, Step, join, sweep, close, end, handOut, answer, step}
