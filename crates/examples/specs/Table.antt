@@ -1,10 +1,10 @@
--- P1 to P10 of document 01 as one table, P9 as document 02's W1 changes it, and W1's own cases, over the definitions of steps, text and ledger.
+-- P1 to P10 of document 01 as one table, P9 as document 02's W1 changes it, W1's own cases and that of W8, over the definitions of steps, text and ledger.
 -- This file is to be believed: `examples` of proofs/Table.antt says that the table holds. A world is written in binary: 0b011 is benches 1 and 2.
 -- Where an example is silent, values are 5 and all benches are in the world.
 use Prim.Native.Nat.{ℕ}
 use Prim.Native.String.{String}
 use mathlib.Core.Bool.{Bool, true, false, _&&_}
-use mathlib.Core.List.{List, [], _∷_}
+use mathlib.Core.List.{List, [], _∷_, _++_, map}
 use lib.Dec.{eqb}
 use Rattle.published.specs.Rounds.{Run, newRun, State, fresh, running, decided, abstained, left, failed, Decision, none, chosen, Step, start, abstain, leave, fail, turn, arrive, notice, step, Limit, upTo}
 use Rattle.kinds.specs.declared.Size.the-variants.{Sixteen}
@@ -14,6 +14,7 @@ use Rattle.spelling.specs.Reading.{saidOf}
 use Rattle.reports.specs.RunReport.{answerTo}
 use Rattle.book.specs.Book as ledger
 use Rattle.book.specs.Book.{Book, newBook}
+use Rattle.examples.specs.Leaver.{starts, rounds}
 
 -- a line of an example: a step, a line of text or a ledger step with its answer; or what a bench then stands at; or the tags of a hand-out; or a
 -- new ledger that begins at a slot
@@ -117,4 +118,6 @@ table =
     ∷ keeps (ledger.handOut 0) 24 ∷ kept (ledger.end 1 1) ∷ keeps (ledger.handOut 0) 22 ∷ hands (7 ∷ []) ∷ keeps (ledger.handOut 9) 24 ∷ kept (ledger.close 2) ∷ hands (8 ∷ []) ∷ [])
     -- the last slot that is handed out
     ∷ (begins 65533 ∷ kept (ledger.join 1 65533) ∷ keeps (ledger.handOut 0) 24 ∷ kept (ledger.close 1) ∷ kept (ledger.close 1) ∷ hands [] ∷ keeps (ledger.handOut 0) 17 ∷ [])
+    -- W8: nobody fails, and the rounds go on to the third
+    ∷ (map ok (starts ++ rounds) ++ (decides′ 1 3 1 ∷ decides′ 2 3 1 ∷ []))
     ∷ []

@@ -13,7 +13,9 @@ pub mod NextRound
 pub mod Effects
 pub mod Decisions
 pub mod Window
+pub mod Lists
 pub mod Failures
+pub mod Pause
 pub mod Reached
 pub mod Records
 pub mod Starts

@@ -1,18 +1,21 @@
 -- `Reached n s`: what holds of every run that steps lead to, as a statement about the run itself. It is shut: other crates know it by its laws alone.
 -- The new run has it, every step keeps it, and from it follow demand 3 and what else is known of reached runs. Assumes nothing.
-use mathlib.Core.Path.{_≡_}
-use Prim.Native.Nat.{ℕ, zero, suc, _≤_}
+use mathlib.Core.Path.{_≡_, refl}
+use Prim.Native.Nat.{ℕ, zero, suc, _+_, _≤_}
 use mathlib.Core.Bool.{true}
 use mathlib.Core.List.{List, [], _∷_}
 use native.Mathlib.Omega.{arith}
-use Rattle.published.specs.Rounds.{Run, running, none, chosen, Limit, Step, Answer, refuse, done, step, runFrom, newRun}
+use Rattle.published.specs.Rounds.{Run, running, none, chosen, absent, find, Limit, Step, Answer, refuse, done, step, runFrom, newRun, newBench}
 use Rattle.common.specs.Worlds.{member}
 use Rattle.common.specs.Benches.{In}
 use Rattle.published.proofs.Moves.{live, Outcome, refused, moved, step-outcome}
 use Rattle.published.proofs.Invariant.{Base, positive}
 use Rattle.published.specs.Proposals.{M, Proposed, NotAboveOwn}
+use Rattle.published.specs.Pause.{NoRoundAbove, NoFailDone}
+use Rattle.published.proofs.Messages.{never}
 use Rattle.published.proofs.Decisions.{Inv, cert-now, inv-move, inv-new}
 use Rattle.published.proofs.Window as window
+use Rattle.published.proofs.Pause as pause
 
 pub Reached : ℕ → Run → Type 0
 Reached n s = Inv n s
@@ -88,3 +91,18 @@ module _ (n : ℕ) (s : Run) (h : Reached n s) where
   pub decided-value : (i d : ℕ) → s i .decision ≡ chosen d → (b : ℕ) → s b .state ≡ running → s b .value ≡ d
   unfolding Reached
   decided-value i d e = cert-now n s (h .base) i d (h .cert i d e)
+
+-- ---- how long after the last failure
+
+-- 5.4: from a reached run in which nobody has sent a round above r, r being at least 1, and without further failures, no round above r + 2 is ever sent
+pub two-more : (n : ℕ) (lim : Limit) (s : Run) → Reached n s → (r : ℕ) → 1 ≤ r → NoRoundAbove r s
+    → (l : List Step) → NoFailDone n lim s l → NoRoundAbove (r + 2) (runFrom n lim s l)
+two-more n lim s h r pos = pause.two-more n lim r pos s (reached-base n s h)
+
+-- 5.5: from one in which nobody has sent anything, no round above 3
+pub three-at-most : (n : ℕ) (lim : Limit) (s : Run) → Reached n s → NoRoundAbove 0 s → (l : List Step) → NoFailDone n lim s l → NoRoundAbove 3 (runFrom n lim s l)
+three-at-most n lim s h z = two-more n lim s h 1 (omega arith) (λ b q v w m. omega (arith, z b q v w m))
+
+pub none-sent : NoRoundAbove 0 newRun
+unfolding newRun newBench find
+none-sent b q v w m = never absent v w refl m

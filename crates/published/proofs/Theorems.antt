@@ -1,9 +1,9 @@
 -- What is proved of the published rounds, for every number of benches n, every limit on rounds and every list of steps from the empty run, refused
 -- ones among them. Each statement stands below its words; the proofs are in the other files. Assumes nothing.
 use mathlib.Core.Path.{_≡_, sym, _∙_}
-use Prim.Native.Nat.{ℕ, suc, _≤_}
+use Prim.Native.Nat.{ℕ, suc, _+_, _≤_}
 use mathlib.Core.Bool.{true}
-use mathlib.Core.List.{List, _∷_, map}
+use mathlib.Core.List.{List, _∷_, _++_, map}
 use Rattle.published.specs.Rounds.{Run, running, chosen, Limit, Step, turn, step, runFrom, answers, newRun}
 use Rattle.common.specs.Worlds.{member}
 use Rattle.common.specs.Benches.{In}
@@ -12,8 +12,10 @@ use Rattle.published.specs.Refusals.{refusals}
 use Rattle.published.specs.Accepted.{accepted}
 use Rattle.published.specs.History.{history}
 use Rattle.published.specs.Proposals.{M, Proposed, NotAboveOwn}
-use Rattle.published.proofs.Reached.{reached-run, decisions-agree, decision-proposed, decision-not-above}
+use Rattle.published.specs.Pause.{NoRoundAbove, NoFailDone}
+use Rattle.published.proofs.Reached.{reached-new, reached-run, none-sent, decisions-agree, decision-proposed, decision-not-above}
 use Rattle.published.proofs.Reached as reached
+use Rattle.published.proofs.Lists.{run-append}
 use Rattle.published.proofs.Refusals as refusing
 use Rattle.published.proofs.Locality as local
 
@@ -64,3 +66,18 @@ module _ (n : ℕ) (lim : Limit) where
   -- Whoever stands in the world of a later round has sent the round before: no missed bench is kept.
   pub members-heard : (l : List Step) (i r v w : ℕ) → M (runFrom n lim newRun l) i (suc (suc r)) v w → (j : ℕ) → In n j → member j w ≡ true → (u : ℕ) × (y : ℕ) × (M (runFrom n lim newRun l) j (suc r) u y)
   members-heard l = reached.members-heard n (runFrom n lim newRun l) (reached-run n lim l)
+
+  -- W8, theorem 5.4: where every bench has last sent round r or an earlier one, r being at least 1, and no fail step is done from there on, no bench ever sends a
+  -- message of a round above r + 2.
+  pub two-more : (l : List Step) (r : ℕ) → 1 ≤ r → NoRoundAbove r (runFrom n lim newRun l)
+      → (m : List Step) → NoFailDone n lim (runFrom n lim newRun l) m → NoRoundAbove (r + 2) (runFrom n lim newRun (l ++ m))
+  two-more l r pos none m nf = rw (run-append n lim newRun l m) (reached.two-more n lim (runFrom n lim newRun l) (reached-run n lim l) r pos none m nf)
+
+  -- Corollary 5.5: where nobody has sent anything yet and no fail step is done from there on, nobody goes past round 3.
+  pub three-at-most : (l : List Step) → NoRoundAbove 0 (runFrom n lim newRun l)
+      → (m : List Step) → NoFailDone n lim (runFrom n lim newRun l) m → NoRoundAbove 3 (runFrom n lim newRun (l ++ m))
+  three-at-most l none m nf = rw (run-append n lim newRun l m) (reached.three-at-most n lim (runFrom n lim newRun l) (reached-run n lim l) none m nf)
+
+  -- So nobody does in a run without failures.
+  pub three-without-failures : (l : List Step) → NoFailDone n lim newRun l → NoRoundAbove 3 (runFrom n lim newRun l)
+  three-without-failures = reached.three-at-most n lim newRun (reached-new n) none-sent

@@ -3,4 +3,4 @@ pub mod Proposals
 pub mod Accepted
 pub mod Refusals
 pub mod History
-pub mod Failures
+pub mod Pause

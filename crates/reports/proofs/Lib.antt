@@ -1,5 +1,6 @@
 pub mod Settled
 pub mod RunLines
+pub mod LastRounds
 pub mod RunLengths
 pub mod Tags
 pub mod LedgerLines
@@ -7,4 +8,5 @@ pub mod LedgerLengths
 pub mod WholeCase
 pub mod LedgerExample
 pub mod Decisions
+pub mod Pause
 pub mod Theorems

@@ -1,7 +1,7 @@
 -- What is proved of both reports: what is promised settles everything, nothing is written on a refusal, how long a report can be, document 01's whole
--- case and a ledger script byte for byte, and that all decisions of a report agree. Each statement stands below its words, the proofs are in the other
--- files. Assumes nothing.
-use Prim.Native.Nat.{ℕ, _≤_}
+-- case and a ledger script byte for byte, that all decisions of a report agree, and how far its rounds can go. Each statement stands below its words, the
+-- proofs are in the other files. Assumes nothing.
+use Prim.Native.Nat.{ℕ, _+_, _≤_}
 use mathlib.Core.List.{List, _++_}
 use mathlib.Core.Path.{_≡_}
 use lib.ListN.{length, getD, take}
@@ -14,13 +14,17 @@ use Rattle.reports.specs.declared.Reported.{Reported}
 use Rattle.reports.specs.declared.Reported.the-variants.{Length}
 use Rattle.reports.specs.Reported.{numberOf, lengthOf, longest, numberFor, lengthFor, Reports}
 use Rattle.reports.specs.RunReport.{answersFrom, stepsOf, runAfter, answerLines, benchLines, totalsOf, runReportOf}
+use Rattle.reports.specs.Cut.{runAt, stepsBehind, printedRound}
 use Rattle.reports.specs.LedgerReport.{ledgerReportOf}
 use Rattle.reports.specs.Examples.{wholeInput, wholeOutput, endedInput, endedOutput, scriptInput, scriptOutput}
 use Rattle.published.specs.Accepted.{Accepted}
+use Rattle.published.specs.Pause.{NoFailDone}
 use Rattle.reports.proofs.Settled as settled
 use Rattle.reports.proofs.RunLengths as run
 use Rattle.reports.proofs.LedgerLengths as ledger
 use Rattle.reports.proofs.Decisions as decisions
+use Rattle.reports.proofs.LastRounds.{last-round}
+use Rattle.reports.proofs.Pause as pause
 use Rattle.reports.proofs.WholeCase as case
 use Rattle.reports.proofs.LedgerExample as script
 
@@ -109,3 +113,18 @@ report-valid = decisions.report-valid
 -- And it is not above the value that the bench's own accepted start line gave.
 pub report-bounded : (size : Size) (text : List ℕ) (i d : ℕ) → runAfter size text i .decision ≡ chosen d → (v : ℕ) × (w : ℕ) × Accepted (benchesOf size) (upTo (roundsOf size)) (start i v w) newRun (stepsOf (readText (benchesOf size) text)) × (d ≤ v)
 report-bounded = decisions.report-bounded
+
+-- ---- W8: the rounds of a run text's report
+
+-- The round that is printed of a bench is the round that the bench is in.
+pub printed-round : (size : Size) (text : List ℕ) (b : ℕ) → printedRound (runAfter size text) b ≡ runAfter size text b .round
+printed-round size text = last-round (benchesOf size) (upTo (roundsOf size)) (stepsOf (readText (benchesOf size) text))
+
+-- Where the first k lines leave no bench in a round above r, r being at least 1, and none of the lines behind them is a fail line that is done, no round above r + 2 is printed.
+pub report-two-more : (size : Size) (text : List ℕ) (k r : ℕ) → 1 ≤ r → ((b : ℕ) → printedRound (runAt size text k) b ≤ r)
+    → NoFailDone (benchesOf size) (upTo (roundsOf size)) (runAt size text k) (stepsBehind size text k) → (b : ℕ) → printedRound (runAfter size text) b ≤ r + 2
+report-two-more = pause.report-two-more
+
+-- Where no fail line of the text is done, no round above 3 is printed.
+pub report-three : (size : Size) (text : List ℕ) → NoFailDone (benchesOf size) (upTo (roundsOf size)) newRun (stepsOf (readText (benchesOf size) text)) → (b : ℕ) → printedRound (runAfter size text) b ≤ 3
+report-three = pause.report-three

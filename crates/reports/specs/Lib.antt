@@ -1,4 +1,5 @@
 pub mod Reported
 pub mod RunReport
+pub mod Cut
 pub mod LedgerReport
 pub mod Examples

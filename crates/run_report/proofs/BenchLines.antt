@@ -23,15 +23,10 @@ use Rattle.spelling.proofs.Stores.{stored-nil, stored-then, stored-length}
 use Rattle.spelling.proofs.Puts.{Put, put-then, put-last}
 use Rattle.reports.specs.RunReport.{stateText, lastRound, valueText, benchLine, benchLines}
 use Rattle.reports.proofs.RunLines.{spelled, spelled-short}
+use Rattle.reports.proofs.LastRounds.{last-append}
 use Rattle.run_report.specs.Parts.{rowLine, rowLines}
 
 -- ---- the row's words are what the report says of the bench
-
-last-append : (r : ℕ) (l m : List Message) → lastRound r (l ++ m) ≡ lastRound (lastRound r l) m
-unfolding lastRound
-last-append r [] m = refl
-last-append r (Round q v w ∷ l) m = last-append q l m
-last-append r (Out ∷ l) m = last-append r l m
 
 last-rounds : (log : List ℕ) (n : ℕ) → lastRound 0 (messagesTo log n) ≡ n
 unfolding lastRound messagesTo

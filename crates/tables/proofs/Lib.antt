@@ -13,6 +13,7 @@ pub mod Steps
 pub mod Empty
 pub mod Meeting
 pub mod Decisions
+pub mod Pause
 pub mod Local
 pub mod ByValue
 pub mod Refusing

@@ -1,8 +1,9 @@
--- What is proved of the two tables, for any N benches and R rounds that they have room for: they are the published rounds, so decisions agree; what a step promises settles
--- everything; a turn is local. Each statement stands below its words, the proofs are in the other files. Assumes nothing.
+-- What is proved of the two tables, for any N benches and R rounds that they have room for: they are the published rounds, so decisions agree and,
+-- without further failures, two rounds more are enough; what a step promises settles everything; a turn is local. Each statement stands below its words, the
+-- proofs are in the other files. Assumes nothing.
 use mathlib.Core.Path.{_≡_, refl, sym, ap, _∙_}
-use mathlib.Core.List.{List, []}
-use Prim.Native.Nat.{ℕ, suc, _≤_, _<_}
+use mathlib.Core.List.{List, [], _++_}
+use Prim.Native.Nat.{ℕ, suc, _+_, _≤_, _<_}
 use lib.ListN.{getD}
 use Rattle.published.specs.Rounds.{Run, Step, start, turn, step, runFrom, upTo, newRun, chosen}
 use Rattle.published.proofs.Theorems as published
@@ -20,14 +21,16 @@ use Rattle.tables.specs.Steps.{Act, Acts, turnBy, turnOn, turnAt, tableS
 use Rattle.tables.specs.Runs.{runOf}
 use Rattle.tables.specs.Sound.{Sound}
 use Rattle.tables.specs.Meets.{Links, Meets}
-use Rattle.tables.specs.Decided.{Chose, value}
+use Rattle.tables.specs.Decided.{Chose, value, lastSent}
 use Rattle.tables.specs.Local.{KeepsRounds}
 use Rattle.published.specs.Accepted.{Accepted}
+use Rattle.published.specs.Pause.{NoFailDone}
 use Rattle.published.proofs.Starts.{accepted-start}
 use Rattle.tables.proofs.Steps.{links}
 use Rattle.tables.proofs.Empty as empty
 use Rattle.tables.proofs.Meeting.{empty-meet}
 use Rattle.tables.proofs.Decisions.{decision-is}
+use Rattle.tables.proofs.Pause.{rows-above, above-rows}
 use Rattle.tables.proofs.Local.{heard-local}
 
 -- ---- the tables are the published rounds
@@ -80,6 +83,16 @@ module _ (N R : ℕ) (hR : 1 ≤ R) (fits : N ≤ places) (deep : R ≤ depth) (
   not-above-own k c =
       let p = published.not-above-own N (upTo R) l (suc k) (value N R l k) (decided k c) in
       (p .own-value, p .own-world, accepted-start N (upTo R) (suc k) (p .own-value) (p .own-world) l (p .own-message), p .not-above)
+
+-- ---- W8: how long after the last lid
+
+-- Where every row says that its bench has last sent round r or an earlier one, r being at least 1, and no fail step is done from there on, no row ever says a round above r + 2.
+pub two-more : (N R : ℕ) → 1 ≤ R → N ≤ places → R ≤ depth → (l : List Step) (r : ℕ) → 1 ≤ r → ((k : ℕ) → lastSent N R l k ≤ r)
+    → (m : List Step) → NoFailDone N (upTo R) (runFrom N (upTo R) newRun l) m → (k : ℕ) → lastSent N R (l ++ m) k ≤ r + 2
+two-more N R hR fits deep l r pos below m nf =
+    let before = tablesFrom N R emptyTables l in let after = tablesFrom N R emptyTables (l ++ m) in
+    above-rows (after .benches) (after .logs) (r + 2) (rw (← tables-meet N R hR fits deep (l ++ m) .run-is)
+    (published.two-more N (upTo R) l r pos (rw (tables-meet N R hR fits deep l .run-is) (rows-above (before .benches) (before .logs) r below)) m nf))
 
 -- ---- a promise settles everything
 

@@ -1,5 +1,5 @@
--- What the table of benches says of decisions after a list of steps from the empty tables, for N benches and R rounds.
--- This file is to be believed: demand 3 of the tables is stated by it.
+-- What the table of benches says of decisions and of rounds after a list of steps from the empty tables, for N benches and R rounds.
+-- This file is to be believed: demand 3 and W8 of the tables are stated by it.
 use mathlib.Core.Path.{_≡_}
 use mathlib.Core.List.{List}
 use Prim.Native.Nat.{ℕ}
@@ -20,3 +20,7 @@ module _ (N R : ℕ) (l : List Step) where
 
   abbrev pub value : ℕ → ℕ
   value k = bench k .value .0
+
+  -- the last round that it has sent, 0 if none
+  abbrev pub lastSent : ℕ → ℕ
+  lastSent k = bench k .sent
