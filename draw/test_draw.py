@@ -273,9 +273,10 @@ class ShownTest(unittest.TestCase):
         self.assertEqual(sorted(meanings)[:26], list(range(26)))
         self.assertEqual(meanings[11], "a member is awaited")
 
-    def test_the_picture_in_the_docs_is_this_one(self):
-        made = draw.picture((ROOT / "examples/08-first-morning.txt").read_bytes(), "08-first-morning.txt")
-        self.assertEqual((ROOT / "docs/first-morning.svg").read_text(), made)
+    def test_the_pictures_in_the_docs_are_these(self):
+        for name in ("08-first-morning", "09-early-leaver"):
+            made = draw.picture((ROOT / f"examples/{name}.txt").read_bytes(), f"{name}.txt")
+            self.assertEqual((ROOT / f"docs/{name[3:]}.svg").read_text(), made)
 
 
 if __name__ == "__main__":

@@ -3,6 +3,7 @@
 
 - every link of a Markdown file leads to a file;
 - docs/THEOREMS.md lists exactly the files that say of themselves that they are to be believed, with their lines, and every theorem that it names is stated;
+- every line of a statement that a page quotes (a block marked antt) stands so in a file of definitions or laws;
 - docs/PROMISES.md has every public function, under its crate, and every must-fail edit of a crate that has functions; the edits that it names are there;
 - `./funkenrille explain` prints every entry of docs/REFUSALS.md, which has 0 to 25 in rising order, and no other number.
 
@@ -72,6 +73,19 @@ def theorems():
     return len(names)
 
 
+def quotes():
+    """A quoted line may leave out `pub`."""
+    lines = {line.strip().removeprefix("pub ") for file in CRATES.glob("*/[sp][pr]*/**/*.antt") for line in file.read_text().splitlines()}
+    count = 0
+    for page in tracked():
+        for quote in re.findall(r"^```antt\n(.*?)^```$", page.read_text(), re.M | re.S):
+            for line in filter(str.strip, quote.splitlines()):
+                count += 1
+                if line.strip() not in lines:
+                    fault(page, f"quotes a line that stands in no file: {line.strip()}")
+    return count
+
+
 def promises():
     page = TOP / "docs" / "PROMISES.md"
     sections = dict(re.findall(r"^## (\w+)\n(.*?)(?=^## |\Z)", page.read_text(), re.M | re.S))
@@ -116,10 +130,10 @@ def refusals():
 
 
 def main():
-    link_count, file_count, theorem_count, (function_count, edit_count), refusal_count = links(), believed(), theorems(), promises(), refusals()
+    link_count, file_count, theorem_count, line_count, (function_count, edit_count), refusal_count = links(), believed(), theorems(), quotes(), promises(), refusals()
     for line in faults:
         print(line)
-    print(f"docs: {link_count} links, {file_count} files to be believed, {theorem_count} theorems, {function_count} public functions, {edit_count} must-fail edits, {refusal_count} answers explained")
+    print(f"docs: {link_count} links, {file_count} files to be believed, {theorem_count} theorems, {line_count} lines of statements, {function_count} public functions, {edit_count} must-fail edits, {refusal_count} answers explained")
     return 1 if faults else 0
 
 
