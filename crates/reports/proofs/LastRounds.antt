@@ -5,7 +5,7 @@ use mathlib.Core.List.{List, [], _∷_, _++_}
 use Prim.Native.Nat.{ℕ, _≤_}
 use native.Mathlib.Omega.{arith}
 use lib.Dec.{eqb}
-use borrow.Author.Tests.{eqb-true, eqb-false, eq-eqb, ne-eqb}
+use borrow.Author.Tests.{eqb-true, eq-eqb}
 use Rattle.published.specs.Rounds.{Run, Bench, Message, Round, Out, found, find, newRun, newBench, inState, inRound, sending, taking, noticing, choosing, entering, parting, deciding, advancing, Limit, Step, Answer, refuse, done, step, runFrom}
 use Rattle.published.specs.Pause.{NoRoundAbove}
 use Rattle.published.proofs.Moves.{Move, starts, abstains, leaves, leaves-silent, fails, takes, notices, concludes, advances, Outcome, refused, moved, step-outcome}

@@ -8,7 +8,7 @@ use mathlib.Core.Path.{_≡_, refl, sym, _∙_}
 use lib.Dec.{eqb}
 use lib.ListN.{length, length-append}
 use borrow.Author.Tests.{ne-eqb, eq-eqb, le-leb}
-use Rattle.published.specs.Rounds.{Message, Round, Out, failed}
+use Rattle.published.specs.Rounds.{Out, failed}
 use Rattle.common.specs.Benches.{isBench}
 use Rattle.common.proofs.Tests.{cond-ind}
 use Rattle.kinds.specs.Sizes.{places}

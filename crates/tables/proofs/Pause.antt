@@ -6,7 +6,7 @@ use native.Mathlib.Omega.{arith}
 use lib.Dec.{eqb, ltb}
 use lib.ListN.{getD}
 use borrow.Author.Tests.{ltb-true, lt-ltb}
-use Rattle.published.specs.Rounds.{absent, found, find, newBench}
+use Rattle.published.specs.Rounds.{absent, find, newBench}
 use Rattle.published.specs.Pause.{NoRoundAbove}
 use Rattle.published.proofs.Messages.{never}
 use Rattle.common.proofs.Tests.{split, clash}
