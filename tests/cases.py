@@ -443,38 +443,6 @@ class BenchRules(Case):
                           + ["bench=16 state=decided round=16 value=5"])
         self.assertEqual(play("run", "\n".join(map(in_full, rows)).encode()), expected)
 
-    def test_a_leaver_after_round_1_makes_a_third_round_although_nobody_fails(self):
-        # the remark behind theorem 5.4: bench 3 is in the world of bench 1, and not in that of bench 2
-        self.run_case("""
-            start 3 1 1,2,3 -> 0 ; start 1 9 1,2,3 -> 0 ; leave 3 -> 0 ; start 2 9 1,2 -> 0
-            arrive 1 3 -> 0 ; arrive 1 3 -> 0 ; arrive 1 2 -> 0 ; arrive 2 1 -> 0 ; turn 1 -> 0
-            turn 2 -> 0 ; arrive 1 2 -> 0 ; arrive 2 1 -> 0 ; turn 1 -> 0 ; turn 2 -> 0
-            arrive 1 2 -> 0 ; arrive 2 1 -> 0 ; turn 1 -> 0 ; turn 2 -> 0
-            ---
-            bench=1 state=decided round=3 value=1
-            bench=2 state=decided round=3 value=1
-            bench=3 state=left round=1 value=none
-        """)
-
-    def test_a_failure_in_round_3_makes_rounds_4_and_5(self):
-        # Bench 3 alone knows the 0 of bench 4, which left, and takes it to round 3; bench 1 misses it in round 2, bench 2 hears it there and in round 3.
-        # All up to the failure can be one moment, and each row behind it one delay of a message later: nobody can turn in between (docs/DECISIONS.md, 'Time').
-        self.run_case("""
-            start 4 0 1,2,3,4 -> 0 ; start 3 1 1,2,3,4 -> 0 ; leave 4 -> 0 ; start 1 1 1,2,3 -> 0 ; start 2 1 1,2,3 -> 0 ; arrive 3 4 -> 0 ; arrive 3 4 -> 0
-            arrive 3 1 -> 0 ; arrive 3 2 -> 0 ; arrive 1 2 -> 0 ; arrive 1 3 -> 0 ; arrive 2 1 -> 0 ; arrive 2 3 -> 0 ; turn 3 -> 0 ; turn 1 -> 0 ; turn 2 -> 0
-            arrive 3 1 -> 0 ; arrive 3 2 -> 0 ; turn 3 -> 0 ; arrive 2 3 -> 0 ; arrive 2 1 -> 0 ; turn 2 -> 0 ; arrive 2 3 -> 0 ; arrive 1 2 -> 0 ; arrive 1 2 -> 0
-            fail 3 -> 0 ; turn 1 -> 11 ; turn 2 -> 11
-            notice 2 3 -> 0 ; notice 1 3 -> 0 ; turn 1 -> 0 ; turn 1 -> 0 ; turn 1 -> 11 ; turn 2 -> 11
-            arrive 2 1 -> 0 ; turn 2 -> 0 ; arrive 2 1 -> 0 ; turn 2 -> 0 ; turn 1 -> 11 ; turn 2 -> 11
-            arrive 1 2 -> 0 ; turn 1 -> 0 ; arrive 1 2 -> 0 ; turn 1 -> 0 ; turn 2 -> 11
-            arrive 2 1 -> 0 ; turn 2 -> 0
-            ---
-            bench=1 state=decided round=5 value=0
-            bench=2 state=decided round=5 value=0
-            bench=3 state=failed round=3 value=none
-            bench=4 state=left round=1 value=none
-        """)
-
     def test_sixteen_benches_decide_in_round_1(self):
         world = ",".join(map(str, range(1, 17)))
         rows = [f"step=start bench={b} value=65535 world={world}" for b in range(1, 17)]

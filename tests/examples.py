@@ -1,10 +1,11 @@
 #!/usr/bin/env python3
-"""Plays every run text and every ledger script in examples/ by `./funkenrille`, and compares with the report beside it; and looks that the early leaver is
-the very case of which theorems speak."""
+"""Plays every run text and every ledger script in examples/, by `./funkenrille` and by the second program, and compares with the report beside it; and looks
+that the early leaver is the very case of which theorems speak."""
 
 import re
 import subprocess
 import sys
+import tempfile
 
 import programs
 
@@ -27,16 +28,22 @@ def leaver():
         programs.stop("09-early-leaver.txt has other steps than crates/examples/specs/Leaver.antt")
 
 
-def main():
+def play(second):
     for command, pattern in KINDS.items():
         texts = sorted((programs.TOP / "examples").glob(pattern))
         for text in texts:
-            made = subprocess.run([programs.TOP / "funkenrille", command, text], capture_output=True, check=True).stdout
-            if made != text.with_suffix(".report").read_bytes():
-                programs.stop(f"{text.name} does not give its report")
+            for words in ([programs.TOP / "funkenrille", command], [second, command]):
+                made = subprocess.run(words, input=text.read_bytes(), capture_output=True, check=True).stdout
+                if made != text.with_suffix(".report").read_bytes():
+                    programs.stop(f"{text.name} does not give its report by {words[0]}")
         if not texts:
             programs.stop(f"there is no example for {command}")
-        print(f"examples: {len(texts)} for {command} give their reports")
+        print(f"examples: {len(texts)} for {command} give their reports, by both programs")
+
+
+def main():
+    with tempfile.TemporaryDirectory() as folder:
+        play(programs.second(folder))
     leaver()
     return 0
 
