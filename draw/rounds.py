@@ -12,7 +12,7 @@ import reading
 from reading import BENCHES
 
 VALUE_MAX = 65535
-ROUND_MAX = 96
+ROUND_MAX = 6 * BENCHES  # no higher round is ever sent
 OUT = 0  # stands where a round message has its round
 GONE = ("left", "failed")
 TAKING = ("fresh", "running")  # the states in which a bench takes messages and notices
@@ -234,8 +234,6 @@ class Run:
             bench.decision = line.decided = own.value
             self.send(line, bench, OUT)
             return 0
-        if bench.round == ROUND_MAX:
-            return 12
         self.send(line, bench, bench.round + 1, min(m.value for m in view.heard.values()), frozenset(view.heard))
         return 0
 

@@ -191,13 +191,9 @@ def not_sent(run, number, member):
     return f"{still}; able to turn now", [f"step=turn bench={member}", f"step=arrive bench={number} from={member}"]
 
 
-def last_round(run, step):
-    return Why("round 96 is the last", ("Rounds end at 96. From a fresh run this is never met.",))
-
-
 AWAITED = {rounds.WAITS: message_waits, rounds.UNNOTICED: not_noticed, rounds.FRESH: is_fresh, rounds.UNSENT: not_sent}
 REFUSALS = {1: no_bench, 2: itself, 3: wrong_state, 4: value_too_high, 5: lacks_itself, 6: lacks_others, 7: shut_out,
-            8: nothing_waits, 9: closed, 10: not_failed, 11: awaiting, 12: last_round}
+            8: nothing_waits, 9: closed, 10: not_failed, 11: awaiting}
 
 
 def help_lines(why):

@@ -21,7 +21,7 @@ import time
 import generate
 import programs
 
-# what a text or a script can be answered; 12 cannot be met from a fresh run, 21 and 22 have no line in a run text
+# what a text or a script can be answered; 12 is retired, 21 and 22 have no line in a run text
 MUST_MEET = {
     "run": {0, 1, 2, 3, 4, 5, 6, 7, 8, 9, 10, 11, 20, 23},
     "ledger": {0, 1, 13, 14, 15, 16, 17, 18, 19, 20, 22, 23, 24, 25},

@@ -88,7 +88,6 @@ STEP int turn(Run *r, unsigned bench) {
         r->out |= 1u << k;
         return 0;
     }
-    if (round >= 96) return 12;
     b->round = round + 1;
     b->value = least;
     b->world = heard;

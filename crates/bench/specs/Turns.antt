@@ -1,11 +1,12 @@
--- A turn of a bench by value: what it makes of what it has heard of its round. N benches, R rounds.
+-- A turn of a bench by value: what it makes of what it has heard of its round. N benches.
 use mathlib.Core.Bool.{Bool, cond, not, _&&_, _||_}
-use Prim.Native.Nat.{ℕ, zero, suc, _+_, min}
+use Prim.Native.Nat.{ℕ, zero, suc, _+_, _%_, min}
 use mathlib.Core.List.{List}
-use lib.Dec.{eqb, ltb}
+use lib.Dec.{eqb}
 use lib.ListN.{getD}
 use lib.Bits.{bitAnd}
 use Rattle.kinds.specs.declared.Message.the-variants.{Round, Out}
+use Rattle.kinds.specs.Sizes.{depth}
 use Rattle.common.specs.Places.{has, some}
 use Rattle.bench.specs.Changes.{inRound, choosing}
 use Rattle.bench.specs.declared.Bench.{Bench}
@@ -59,12 +60,13 @@ goes b = record { bench = b; answer = Went (Round (record { round = b .round; va
 abbrev pub concludes : Bench → Turned
 concludes b = record { bench = choosing b; answer = Decided (b .value) Out }
 
-unfoldable pub goOnOf : ℕ → Bench → Heard → Turned
-goOnOf N b h = goes (inRound (b .round .0 + 1) (gatherOf N b h .value) (gatherOf N b h .world) b)
+-- the round after r. A log ends at round `depth`, behind which the first comes again: no run from the empty one gets there (W9), but a bench that no steps
+-- made may stand in any round
+unfoldable pub nextRound : ℕ → ℕ
+nextRound r = r % depth + 1
 
-unfoldable pub turnOf : ℕ → ℕ → Bench → Heard → Turned
-turnOf N R b h =
-    cond (eqb (b .state) 1)
-    (cond (awaitsOf N b h) (refuses b 11)
-    (cond (forbidsOf N b h) (cond (ltb (b .round .0) R) (goOnOf N b h) (refuses b 12)) (concludes b)))
-    (refuses b 3)
+unfoldable pub goOnOf : ℕ → Bench → Heard → Turned
+goOnOf N b h = goes (inRound (nextRound (b .round .0)) (gatherOf N b h .value) (gatherOf N b h .world) b)
+
+unfoldable pub turnOf : ℕ → Bench → Heard → Turned
+turnOf N b h = cond (eqb (b .state) 1) (cond (awaitsOf N b h) (refuses b 11) (cond (forbidsOf N b h) (goOnOf N b h) (concludes b))) (refuses b 3)

@@ -2,8 +2,8 @@
 
 ghost use mathlib.Core.Path.{_≡_};
 ghost use Prim.Native.Nat.{_<_};
-ghost use Rattle.kinds.specs.Sizes.{benchesOf, roundsOf, depth};
-ghost use Rattle.bench.specs.Turns.{awaitedAt, awaitsOf, forbidsBy, forbidsOf, gatherOf, refuses, concludes, goOnOf, turnOf};
+ghost use Rattle.kinds.specs.Sizes.{benchesOf};
+ghost use Rattle.bench.specs.Turns.{awaitedAt, awaitsOf, forbidsBy, forbidsOf, gatherOf, refuses, concludes, nextRound, goOnOf, turnOf};
 use crate::Answer;
 use crate::Bench;
 use crate::DECIDED;
@@ -12,6 +12,7 @@ use crate::Heard;
 use crate::RUNNING;
 use crate::Turned;
 use kinds::AnswerNo;
+use kinds::DEPTH;
 use kinds::Message;
 use kinds::RoundMessage;
 use kinds::RoundNo;
@@ -19,12 +20,11 @@ use kinds::Size;
 use kinds::SlotNo;
 use sets::benches_of;
 use sets::has;
-use sets::rounds_of;
 
 impl Bench {
     // The bench looks at each member of its world. Where it refuses, the bench is handed back as it was.
     pub fn turn(self, h: Heard, size: Size) -> Turned
-        ensures { λ r. ⌜ r ≡ turnOf (benchesOf size) (roundsOf size) self h ⌝ }
+        ensures { λ r. ⌜ r ≡ turnOf (benchesOf size) self h ⌝ }
     {
         if self.state != RUNNING {
             return self.refused(3);
@@ -34,9 +34,6 @@ impl Bench {
         }
         if !self.forbids(h, size) {
             return self.concluded();
-        }
-        if rounds_of(size) <= self.round.0 {
-            return self.refused(12);
         }
         self.go_on(h, size)
     }
@@ -146,11 +143,10 @@ impl Bench {
 
     // The bench is in the next round, with the least value heard and the members heard, and has that round's message to send.
     fn go_on(self, h: Heard, size: Size) -> Turned
-        requires { ⌜ self .round .0 < depth ⌝ }
         ensures { λ r. ⌜ r ≡ goOnOf (benchesOf size) self h ⌝ }
     {
         let g = self.gather(h, size);
-        let round = RoundNo(self.round.0 + 1);
+        let round = RoundNo(round_after(self.round.0));
         let value = g.value;
         let mut b = self;
         b.state = RUNNING;
@@ -167,4 +163,12 @@ impl Bench {
             answer: Answer::Went(Message::Round(m)),
         }
     }
+}
+
+// The round after. Behind the last that a log has comes the first: no run gets there, but a bench by value may stand in any round.
+fn round_after(r: u32) -> u32
+    ensures { λ q. ⌜ q ≡ nextRound r ⌝ }
+{
+    let last = DEPTH as u32;
+    r % last + 1
 }

@@ -2,7 +2,7 @@
 use mathlib.Core.Path.{_≡_, refl}
 use Prim.Native.Nat.{ℕ}
 use mathlib.Core.Bool.{Bool, true, false, _&&_}
-use mathlib.Core.List.{List, [], _∷_}
+use mathlib.Core.List.{List, [], _∷_, _++_}
 use Rattle.common.specs.Checks.{Check, needs, judge, Holds, nothing, also, Fails, here, later}
 use Rattle.common.specs.Lists.{OneOf, first, further}
 use Rattle.common.proofs.Tests.{both}
@@ -57,6 +57,20 @@ unfolding judge
 judge-both P r r′ d d′ [] f h = h
 judge-both P r r′ d d′ (needs k true ∷ l) f h = judge-both P r r′ d d′ l f h
 judge-both P r r′ d d′ (needs k false ∷ l) f h = f k
+
+-- checks that stand behind others are asked where those hold
+pub judge-append : {A : Type 0} (refuse : ℕ → A) (l m : List Check) (done : A) → judge refuse (l ++ m) done ≡ judge refuse l (judge refuse m done)
+unfolding judge
+judge-append refuse [] m done = refl
+judge-append refuse (needs k true ∷ l) m done = judge-append refuse l m done
+judge-append refuse (needs k false ∷ l) m done = refl
+
+-- two that are the same where all checks hold are judged the same
+pub judge-same : {A : Type 0} (refuse : ℕ → A) (l : List Check) (d d′ : A) → (Holds l → d ≡ d′) → judge refuse l d ≡ judge refuse l d′
+unfolding judge
+judge-same refuse [] d d′ f = f nothing
+judge-same refuse (needs k true ∷ l) d d′ f = judge-same refuse l d d′ (λ h. f (also k true l refl h))
+judge-same refuse (needs k false ∷ l) d d′ f = refl
 
 -- ---- the numbers
 

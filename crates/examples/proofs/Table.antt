@@ -4,9 +4,9 @@ use mathlib.Core.Bool.{true}
 use Rattle.common.specs.Worlds.{bit, member, worldOf, everyIn, within}
 use Rattle.common.specs.Benches.{every, isBench}
 use Rattle.common.specs.Updates.{put}
-use Rattle.published.specs.Rounds.{newRun, newBench, step, find, hasOut, viewOf, got, see, agrees, isAwaited, isHeard, decides, decidesOn, settled, settledOn, nextWorld, heardOn, lesser, nextValue, leastOn, inState, inRound, sending, taking, noticing, choosing, entering, parting, deciding, advancing, turned, leaving, isFresh, isRunning, isFailed, isGone, isFound, startedWith, hasAll, inAll, waiting, some, takingFirst, allows, checks, after, refuse, done}
+use Rattle.published.specs.Rounds.{newRun, newBench, step, find, hasOut, viewOf, got, see, agrees, isAwaited, isHeard, decides, decidesOn, settled, settledOn, nextWorld, heardOn, lesser, nextValue, leastOn, inState, inRound, sending, taking, noticing, choosing, entering, parting, deciding, advancing, turned, leaving, isFresh, isRunning, isFailed, isGone, isFound, startedWith, hasAll, inAll, waiting, some, takingFirst, checks, after, refuse, done}
 use Rattle.common.specs.Checks.{judge}
-use Rattle.kinds.specs.Sizes.{benchesOf, roundsOf}
+use Rattle.kinds.specs.Sizes.{benchesOf}
 use Rattle.kinds.specs.Stand.{stepOf}
 use Rattle.spelling.specs.Fields.{isPrefix, digitAt, moreDigits, numberAt, fieldAt}
 use Rattle.spelling.specs.Reading.{memberAt, membersAt, worldAt, keyOf, rareVerbAt, verbAt, startAt, fromAt, restAt, stepAt, saidOf}
@@ -17,5 +17,5 @@ use Rattle.examples.specs.Table.{isRound, isValue, isDecided, same, hold
 use Rattle.examples.specs.Leaver.{starts, rounds}
 
 pub examples : allHold table ≡ true
-unfolding benchesOf roundsOf allHold holds table starts rounds isRound isValue isDecided same newRun newBench step bit member every worldOf everyIn within put find hasOut viewOf got see agrees isAwaited isHeard decides decidesOn settled settledOn nextWorld heardOn lesser nextValue leastOn inState inRound sending taking noticing choosing entering parting deciding advancing turned leaving isBench isFresh isRunning isFailed isGone isFound startedWith hasAll inAll waiting some takingFirst allows checks after refuse done stepOf isPrefix digitAt moreDigits numberAt fieldAt memberAt membersAt worldAt keyOf rareVerbAt verbAt startAt fromAt restAt stepAt saidOf answerTo newBook only tagsOf hasJoined isOpen firstSlot openSlot isMember doneWith allClosed mayGo withRow swept cut advanced ledger.checks ledger.answer ledger.after judge ledger.step
+unfolding benchesOf allHold holds table starts rounds isRound isValue isDecided same newRun newBench step bit member every worldOf everyIn within put find hasOut viewOf got see agrees isAwaited isHeard decides decidesOn settled settledOn nextWorld heardOn lesser nextValue leastOn inState inRound sending taking noticing choosing entering parting deciding advancing turned leaving isBench isFresh isRunning isFailed isGone isFound startedWith hasAll inAll waiting some takingFirst checks after refuse done stepOf isPrefix digitAt moreDigits numberAt fieldAt memberAt membersAt worldAt keyOf rareVerbAt verbAt startAt fromAt restAt stepAt saidOf answerTo newBook only tagsOf hasJoined isOpen firstSlot openSlot isMember doneWith allClosed mayGo withRow swept cut advanced ledger.checks ledger.answer ledger.after judge ledger.step
 examples = refl

@@ -6,9 +6,9 @@ use Prim.Native.String.{String}
 use mathlib.Core.Bool.{Bool, true, false, _&&_}
 use mathlib.Core.List.{List, [], _∷_, _++_, map}
 use lib.Dec.{eqb}
-use Rattle.published.specs.Rounds.{Run, newRun, State, fresh, running, decided, abstained, left, failed, Decision, none, chosen, Step, start, abstain, leave, fail, turn, arrive, notice, step, Limit, upTo}
+use Rattle.published.specs.Rounds.{Run, newRun, State, fresh, running, decided, abstained, left, failed, Decision, none, chosen, Step, start, abstain, leave, fail, turn, arrive, notice, step}
 use Rattle.kinds.specs.declared.Size.the-variants.{Sixteen}
-use Rattle.kinds.specs.Sizes.{benchesOf, roundsOf}
+use Rattle.kinds.specs.Sizes.{benchesOf}
 use Rattle.spelling.specs.Numbers.{ascii}
 use Rattle.spelling.specs.Reading.{saidOf}
 use Rattle.reports.specs.RunReport.{answerTo}
@@ -57,13 +57,10 @@ same (x ∷ l) (y ∷ m) = eqb x y && same l m
 abbrev pub benches : ℕ
 benches = benchesOf Sixteen
 
-abbrev pub limit : Limit
-limit = upTo (roundsOf Sixteen)
-
 -- from a run and a book: the lines hold, one after another
 unfoldable pub holds : Run → Book → List Line → Bool
 holds s b [] = true
-holds s b (does a k ∷ l) = eqb (step benches limit s a .number) k && holds (step benches limit s a .run) b l
+holds s b (does a k ∷ l) = eqb (step benches s a .number) k && holds (step benches s a .run) b l
 holds s b (reads t k ∷ l) = eqb (answerTo Sixteen s (saidOf benches (ascii t)) .number) k && holds (answerTo Sixteen s (saidOf benches (ascii t)) .run) b l
 holds s b (stands i r v w ∷ l) = (isRound (s i .state) (s i .round) r && eqb (s i .value) v && eqb (s i .world) w) && holds s b l
 holds s b (decides′ i r v ∷ l) = (isDecided (s i .state) && eqb (s i .round) r && isValue (s i .decision) v) && holds s b l

@@ -1,4 +1,4 @@
--- How many benches and rounds each size has, and what tables have room for. This file is to be believed.
+-- How many benches each size has, and what tables have room for. This file is to be believed.
 use Prim.Native.Nat.{ℕ}
 use Rattle.kinds.specs.declared.Size.{Size}
 use Rattle.kinds.specs.declared.Size.the-variants.{Sixteen}
@@ -6,12 +6,9 @@ use Rattle.kinds.specs.declared.Size.the-variants.{Sixteen}
 unfoldable pub benchesOf : Size → ℕ
 benchesOf Sixteen = 16
 
-unfoldable pub roundsOf : Size → ℕ
-roundsOf Sixteen = 96
-
 -- the places of a table, a bench or a sender at each, and the rounds of a log: `PLACES` and `DEPTH` in code
 abbrev pub places : ℕ
 places = 16
 
 abbrev pub depth : ℕ
-depth = 96
+depth = 64

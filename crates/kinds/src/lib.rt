@@ -2,15 +2,15 @@
 // specs/Stand.antt says which message and which step of `published` each stands for, specs/Sizes.antt the numbers of each size. There are no
 // functions here: a number is checked where it is used, so each kind holds any u32.
 
-// How many benches a run has and how many rounds, or how many senders a ledger. Whoever needs a limit takes a size, so that no limit can be wrong.
+// How many benches a run has, or how many senders a ledger. Whoever needs a limit takes a size, so that no limit can be wrong.
 pub enum Size {
     Sixteen,
 }
 
-// What tables have room for, whatever the size: a place for each bench or sender, and the rounds of a log.
+// What tables have room for, whatever the size: a place for each bench or sender, and the rounds of a log, more than any run has (`rounds-fit`).
 pub const PLACES: usize = 16;
 
-pub const DEPTH: usize = 96;
+pub const DEPTH: usize = 64;
 
 // A bench or a sender; those of a run are 1 to as many as its size says.
 pub struct BenchNo(pub u32);

@@ -164,26 +164,26 @@ module _ (n begin : ℕ) (cursor : List ℕ) (rows : List (List ℕ)) (room : Li
 
 -- Bench i started a run with value v, the open slot of sender s in its ledger then, and decided d. Whatever its ledger did since, whether it closed
 -- slots for that sender or not: ending s at d is not refused with 18, and once that is done no sweep of s from slot d on is ever handed out.
-pub joint : (m : ℕ) (lim : rounds.Limit) (run : List rounds.Step) (i v w d : ℕ) → find 1 (runFrom m lim newRun run i .sent) ≡ found v w → runFrom m lim newRun run i .decision ≡ chosen d
+pub joint : (m : ℕ) (run : List rounds.Step) (i v w d : ℕ) → find 1 (runFrom m newRun run i .sent) ≡ found v w → runFrom m newRun run i .decision ≡ chosen d
     → (n : ℕ) (b : Book) (s f : ℕ) → b .rows s ≡ joined f v → (since : List Step) → (step n (bookFrom n b since) (end s d) .number ≡ 18 → ⊥)
     × (step n (bookFrom n b since) (end s d) .number ≡ 0 → (later : List Step) → All (λ w. sentFrom s d w ≡ false) (along handedOut n (step n (bookFrom n b since) (end s d) .book) later))
-joint m lim run i v w d started decided n b s f was since = (
-  joins.end-never-18 n b s f v d was (joins.not-above-start m lim run i v w d started decided) since,
+joint m run i v w d started decided n b s f was since = (
+  joins.end-never-18 n b s f v d was (joins.not-above-start m run i v w d started decided) since,
   joins.end-hands-none n (bookFrom n b since) s d,
 )
 
 -- The same of calls, on whatever words: bench i started a run with the open slot of sender s in its ledger's words x, and decided d. Whatever calls led to the
 -- words y since, ending s at d there is not refused with 18, and once that is done later calls hand out no sweep of s from slot d on.
-pub calls-joint : (m : ℕ) (lim : rounds.Limit) (run : List rounds.Step) (i v w d : ℕ) → find 1 (runFrom m lim newRun run i .sent) ≡ found v w → runFrom m lim newRun run i .decision ≡ chosen d
+pub calls-joint : (m : ℕ) (run : List rounds.Step) (i v w d : ℕ) → find 1 (runFrom m newRun run i .sent) ≡ found v w → runFrom m newRun run i .decision ≡ chosen d
     → (n : ℕ) (x : Lent) (s f : ℕ) → rowsBy x s ≡ joined f v → (since : List Step) (rs ts : List ℕ) (y : Lent) → Calls n x since rs ts y → (r : ℕ) (z : Lent) → Tells n y (end s d) r z → (r ≡ 18 → ⊥)
     × (r ≡ 0 → (later : List Step) (qs us : List ℕ) (z′ : Lent) → Calls n z later qs us z′ → (us ≡ map (λ (w : Sweep). w .tag) (along handedOut n (bookOf z) later)) × All (λ w. sentFrom s d w ≡ false) (along handedOut n (bookOf z) later))
 unfolding bookOf
-calls-joint m lim run i v w d started decided n x s f was since rs ts y calls r z ends =
+calls-joint m run i v w d started decided n x s f was since rs ts y calls r z ends =
     let b = bookFrom n (bookOf x) since in
     let e : bookOf y ≡ b = calling.calls-book n x since rs ts y calls in
     let told : r ≡ step n b (end s d) .number = ends .number-is ∙ ap (λ (c : Book). step n c (end s d) .number) e in
     let left : bookOf z ≡ step n b (end s d) .book = ends .book-is ∙ ap (λ (c : Book). step n c (end s d) .book) e in
-    let j = joint m lim run i v w d started decided n (bookOf x) s f was since in (
+    let j = joint m run i v w d started decided n (bookOf x) s f was since in (
       λ q. j .0 (sym told ∙ q),
       λ q later qs us z′ after. (
         calling.calls-tags n z later qs us z′ after ∙ tags-along n (bookOf z) later,

@@ -7,7 +7,7 @@ use mathlib.Core.Bool.{true}
 use native.Mathlib.Omega.{arith}
 use lib.Dec.{eqb}
 use borrow.Author.Tests.{eqb-true, eqb-false}
-use Rattle.published.specs.Rounds.{Run, Bench, running, none, chosen, isFresh, isRunning, find, hasOut, got, see, agrees, decides, decidesOn, newRun, newBench, inState, inRound, sending, taking, noticing, choosing, entering, parting, deciding, advancing, Limit, Step}
+use Rattle.published.specs.Rounds.{Run, Bench, running, none, chosen, isFresh, isRunning, find, hasOut, got, see, agrees, decides, decidesOn, newRun, newBench, inState, inRound, sending, taking, noticing, choosing, entering, parting, deciding, advancing, Step}
 use Rattle.common.specs.Worlds.{member, within}
 use Rattle.common.specs.Updates.{put}
 use Rattle.common.proofs.Tests.{both, split, clash}
@@ -91,7 +91,7 @@ module _ (n : ℕ) (s : Run) (h : Base n s) where
 
 -- ---- every move
 
-module _ (n : ℕ) (lim : Limit) (s : Run) (h : Inv n s) where
+module _ (n : ℕ) (s : Run) (h : Inv n s) where
   cert-mono : (b : ℕ) (x : Bench) → Effect n s b x → (i d : ℕ) → Cert n s i d → Cert n (put s b x) i d
   cert-mono b x f i d c = record {
     r = c .r;
@@ -133,7 +133,7 @@ module _ (n : ℕ) (lim : Limit) (s : Run) (h : Inv n s) where
       this i d = put-ind (λ y. y .decision ≡ chosen d → d ≡ s b .value) s b (deciding (s b)) i
           (λ e q. cc) (λ e q. sym (cert-now n s (h .base) i d (h .cert i d q) b k))
 
-  by-move : (a : Step) (b : ℕ) (x : Bench) → Move n lim s a b x → Effect n s b x → Base n (put s b x) → Inv n (put s b x)
+  by-move : (a : Step) (b : ℕ) (x : Bench) → Move n s a b x → Effect n s b x → Base n (put s b x) → Inv n (put s b x)
   unfolding entering parting advancing inState inRound sending taking noticing live isFresh isRunning
   by-move a d x (starts b v w hb k hv hw mb c₆ c₇) f g = keeps b _ f g refl (λ l. fresh-live k)
   by-move a d x (abstains b hb k) f g = keeps b _ f g refl (λ l. cc)
@@ -143,10 +143,10 @@ module _ (n : ℕ) (lim : Limit) (s : Run) (h : Inv n s) where
   by-move a d x (takes b c m q hb hf ne l z e) f g = keeps b _ f g refl (λ q. q)
   by-move a d x (notices b c hb hf ne l e z) f g = keeps b _ f g refl (λ q. q)
   by-move a d x (concludes b hb k e) f g = decided-now b f g k e
-  by-move a d x (advances b hb k e t y) f g = keeps b _ f g refl (λ l. running-live k)
+  by-move a d x (advances b hb k e t) f g = keeps b _ f g refl (λ l. running-live k)
 
-  pub inv-move : (a : Step) (b : ℕ) (x : Bench) → Move n lim s a b x → Inv n (put s b x)
-  inv-move a b x m = by-move a b x m (effect n lim s (h .base) a b x m) (base-move n lim s (h .base) a b x m)
+  pub inv-move : (a : Step) (b : ℕ) (x : Bench) → Move n s a b x → Inv n (put s b x)
+  inv-move a b x m = by-move a b x m (effect n s (h .base) a b x m) (base-move n s (h .base) a b x m)
 
 pub inv-new : (n : ℕ) → Inv n newRun
 unfolding newRun newBench

@@ -4,7 +4,7 @@ use Prim.Native.Nat.{ℕ, zero}
 use mathlib.Core.Bool.{true, not, _||_}
 use mathlib.Core.List.{List, [], _∷_}
 use native.Mathlib.Omega.{arith}
-use Rattle.published.specs.Rounds.{Run, Bench, Message, Round, Out, absent, found, fresh, running, left, abstained, failed, find, hasOut, isFound, isGone, isFresh, isRunning, startedWith, hasAll, inAll, newRun, newBench, inState, sending, taking, noticing, entering, parting, advancing, Limit, Step}
+use Rattle.published.specs.Rounds.{Run, Bench, Message, Round, Out, absent, found, fresh, running, left, abstained, failed, find, hasOut, isFound, isGone, isFresh, isRunning, startedWith, hasAll, inAll, newRun, newBench, inState, sending, taking, noticing, entering, parting, advancing, Step}
 use Rattle.common.specs.Worlds.{member}
 use Rattle.common.specs.Updates.{put}
 use Rattle.common.proofs.Tests.{clash}
@@ -61,12 +61,12 @@ pub record Effect (n : ℕ) (s : Run) (b : ℕ) (x : Bench) : Type 0 where
   pub news : (r v w : ℕ) → find r extra ≡ found v w → News n s b x r v w
   pub runs : (i v w : ℕ) → x .state ≡ running → M s i 1 v w → member b w ≡ true
 
-module _ (n : ℕ) (lim : Limit) (s : Run) (h : Base n s) where
+module _ (n : ℕ) (s : Run) (h : Base n s) where
   -- a move that sends no round message
   quietly : (b : ℕ) (x : Bench) (extra : List Message) → Change s b x extra → ((r : ℕ) → find r extra ≡ absent) → (x .state ≡ running → s b .state ≡ running) → Effect n s b x
   quietly b x extra c z k = record { extra = extra; change = c; news = λ r v w q. never (find r extra) v w (z r) q; runs = λ i v w q m. h .known i b v w (k q) m }
 
-  pub effect : (a : Step) (b : ℕ) (x : Bench) → Move n lim s a b x → Effect n s b x
+  pub effect : (a : Step) (b : ℕ) (x : Bench) → Move n s a b x → Effect n s b x
   unfolding find live isFresh isRunning parting sending inState taking noticing advancing
   effect a d x (starts b v w hb k hv hw mb c₆ c₇) = record {
     extra = _;
@@ -82,14 +82,14 @@ module _ (n : ℕ) (lim : Limit) (s : Run) (h : Base n s) where
   effect a d x (takes b f m q hb hf ne l g e) = quietly b _ [] (change-take n s h b f m q e (live-up (s b .state) l)) (λ r. refl) (λ z. z)
   effect a d x (notices b f hb hf ne l e g) = quietly b _ [] (change-notice n s h b f e (live-up (s b .state) l)) (λ r. refl) (λ z. z)
   effect a d x (concludes b hb k e) = quietly b _ (Out ∷ []) (change-decide n s h b (running-live k)) (λ r. refl) (λ z. cc)
-  effect a d x (advances b hb k e t y) = record {
+  effect a d x (advances b hb k e t) = record {
     extra = _;
     change = change-advance n s h b _ _ k;
     news = news-advance n s h b hb k e t;
     runs = λ i v w q m. h .known i b v w k m;
   }
 
-  pub base-move : (a : Step) (b : ℕ) (x : Bench) → Move n lim s a b x → Base n (put s b x)
+  pub base-move : (a : Step) (b : ℕ) (x : Bench) → Move n s a b x → Base n (put s b x)
   base-move a b x m = let e = effect a b x m in base-step s b x (e .extra) (e .change) n h (e .news) (e .runs)
 
 pub base-new : (n : ℕ) → Base n newRun

@@ -16,7 +16,9 @@ pub mod Window
 pub mod Lists
 pub mod Failures
 pub mod Pause
+pub mod Highest
 pub mod Reached
+pub mod NoLimit
 pub mod Records
 pub mod Starts
 pub mod Refusals

@@ -3,14 +3,14 @@ use mathlib.Core.Path.{_≡_, refl}
 use mathlib.Core.Bool.{Bool, true, false, _&&_, false≢true}
 use mathlib.Core.List.{List, [], _∷_, _++_}
 use Prim.Native.Nat.{ℕ}
-use Rattle.published.specs.Rounds.{Run, Limit, Step, start, abstain, leave, fail, turn, arrive, notice, step, runFrom}
+use Rattle.published.specs.Rounds.{Run, Step, start, abstain, leave, fail, turn, arrive, notice, step, runFrom}
 use Rattle.published.specs.Accepted.{Accepted, here, later}
 use Rattle.common.proofs.Tests.{both}
 
-pub run-append : (n : ℕ) (lim : Limit) (s : Run) (l m : List Step) → runFrom n lim s (l ++ m) ≡ runFrom n lim (runFrom n lim s l) m
+pub run-append : (n : ℕ) (s : Run) (l m : List Step) → runFrom n s (l ++ m) ≡ runFrom n (runFrom n s l) m
 unfolding runFrom
-run-append n lim s [] m = refl
-run-append n lim s (a ∷ l) m = run-append n lim (step n lim s a .run) l m
+run-append n s [] m = refl
+run-append n s (a ∷ l) m = run-append n (step n s a .run) l m
 
 unfoldable pub isNoFail : Step → Bool
 isNoFail (start b v w) = true
@@ -27,7 +27,7 @@ noFails [] = true
 noFails (a ∷ l) = isNoFail a && noFails l
 
 -- so none is done, wherever the list begins
-pub no-fail-done : (n : ℕ) (lim : Limit) (b : ℕ) (s : Run) (l : List Step) → noFails l ≡ true → Accepted n lim (fail b) s l → ⊥
+pub no-fail-done : (n : ℕ) (b : ℕ) (s : Run) (l : List Step) → noFails l ≡ true → Accepted n (fail b) s l → ⊥
 unfolding noFails isNoFail
-no-fail-done n lim b d m e (here s l z) = false≢true e
-no-fail-done n lim b d m e (later s c l g) = no-fail-done n lim b (step n lim s c .run) l (both (isNoFail c) (noFails l) e .1) g
+no-fail-done n b d m e (here s l z) = false≢true e
+no-fail-done n b d m e (later s c l g) = no-fail-done n b (step n s c .run) l (both (isNoFail c) (noFails l) e .1) g

@@ -11,7 +11,7 @@ use Rattle.published.specs.Rounds.{Run, Bench, Message, State, fresh, ru
 use Rattle.common.specs.Updates.{put}
 use Rattle.common.specs.Worlds.{member}
 use Rattle.common.specs.Benches.{isBench, In}
-use Rattle.published.specs.Rounds.{isFresh, isRunning, isFailed, isGone, hasAll, inAll, waiting, some, Limit, allows, Step, start, abstain, leave, fail, turn, arrive, notice, checks, after, Answer, refuse, done, step}
+use Rattle.published.specs.Rounds.{isFresh, isRunning, isFailed, isGone, hasAll, inAll, waiting, some, Step, start, abstain, leave, fail, turn, arrive, notice, checks, after, Answer, refuse, done, step}
 use Rattle.common.proofs.Tests.{both, clash, split, cond-ind}
 use Rattle.common.proofs.Benches.{bench-in}
 use Rattle.common.proofs.Checks.{judge-ind}
@@ -78,29 +78,29 @@ up-not-failed k u = split (isFailed k) (λ e. absurd (u (failed-is k e))) (λ e.
 -- ---- moves
 
 -- the step is done: bench b becomes x
-pub data Move (n : ℕ) (lim : Limit) (s : Run) : Step → ℕ → Bench → Type 0 where
+pub data Move (n : ℕ) (s : Run) : Step → ℕ → Bench → Type 0 where
   starts : (b v w : ℕ) → In n b → s b .state ≡ fresh → v ≤ 65535 → w < 2 ^ n → member b w ≡ true → hasAll n s w ≡ true → inAll n s b ≡ true
-      → Move n lim s (start b v w) b (entering 1 v w (s b))
-  abstains : (b : ℕ) → In n b → s b .state ≡ fresh → Move n lim s (abstain b) b (parting abstained (s b))
-  leaves : (b : ℕ) → In n b → isGone (s b .state) ≡ false → hasOut (s b .sent) ≡ false → Move n lim s (leave b) b (parting left (s b))
-  leaves-silent : (b : ℕ) → In n b → isGone (s b .state) ≡ false → hasOut (s b .sent) ≡ true → Move n lim s (leave b) b (inState left (s b))
-  fails : (b : ℕ) → In n b → isGone (s b .state) ≡ false → Move n lim s (fail b) b (inState failed (s b))
-  concludes : (b : ℕ) → In n b → s b .state ≡ running → decides n b (s b) ≡ true → Move n lim s (turn b) b (deciding (s b))
-  advances : (b : ℕ) → In n b → s b .state ≡ running → decides n b (s b) ≡ false → settled n b (s b) ≡ true → allows lim (suc (s b .round)) ≡ true
-      → Move n lim s (turn b) b (advancing n b (s b))
+      → Move n s (start b v w) b (entering 1 v w (s b))
+  abstains : (b : ℕ) → In n b → s b .state ≡ fresh → Move n s (abstain b) b (parting abstained (s b))
+  leaves : (b : ℕ) → In n b → isGone (s b .state) ≡ false → hasOut (s b .sent) ≡ false → Move n s (leave b) b (parting left (s b))
+  leaves-silent : (b : ℕ) → In n b → isGone (s b .state) ≡ false → hasOut (s b .sent) ≡ true → Move n s (leave b) b (inState left (s b))
+  fails : (b : ℕ) → In n b → isGone (s b .state) ≡ false → Move n s (fail b) b (inState failed (s b))
+  concludes : (b : ℕ) → In n b → s b .state ≡ running → decides n b (s b) ≡ true → Move n s (turn b) b (deciding (s b))
+  advances : (b : ℕ) → In n b → s b .state ≡ running → decides n b (s b) ≡ false → settled n b (s b) ≡ true
+      → Move n s (turn b) b (advancing n b (s b))
   takes : (b f : ℕ) (m : Message) (q : List Message) → In n b → In n f → (b ≡ f → ⊥) → live (s b .state) ≡ true → s b .noticed f ≡ false → waiting s b f ≡ m ∷ q
-      → Move n lim s (arrive b f) b (taking f m (s b))
+      → Move n s (arrive b f) b (taking f m (s b))
   notices : (b f : ℕ) → In n b → In n f → (b ≡ f → ⊥) → live (s b .state) ≡ true → s f .state ≡ failed → s b .noticed f ≡ false
-      → Move n lim s (notice b f) b (noticing f (s b))
+      → Move n s (notice b f) b (noticing f (s b))
 
-pub data Outcome (n : ℕ) (lim : Limit) (s : Run) (a : Step) : Answer → Type 0 where
-  refused : (k : ℕ) → Fails (checks n lim s a) (suc k) → Outcome n lim s a (refuse (suc k) s)
-  moved : (b : ℕ) (x : Bench) → Move n lim s a b x → Outcome n lim s a (done (put s b x))
+pub data Outcome (n : ℕ) (s : Run) (a : Step) : Answer → Type 0 where
+  refused : (k : ℕ) → Fails (checks n s a) (suc k) → Outcome n s a (refuse (suc k) s)
+  moved : (b : ℕ) (x : Bench) → Move n s a b x → Outcome n s a (done (put s b x))
 
-module _ (n : ℕ) (lim : Limit) (s : Run) where
+module _ (n : ℕ) (s : Run) where
   -- where a step's checks hold, it is a move
   abbrev Moved : Step → Type 0
-  Moved a = Holds (checks n lim s a) → Outcome n lim s a (done (after n s a))
+  Moved a = Holds (checks n s a) → Outcome n s a (done (after n s a))
 
   start-moves : (b v w : ℕ) → Moved (start b v w)
   unfolding checks after
@@ -115,7 +115,7 @@ module _ (n : ℕ) (lim : Limit) (s : Run) where
   leave-moves : (b : ℕ) → Moved (leave b)
   unfolding checks after leaving
   leave-moves b (also i₁ c₁ l₁ e₁ (also i₃ c₃ l₃ e₃ nothing)) =
-      cond-ind (λ x. Outcome n lim s (leave b) (done (put s b x))) (hasOut (s b .sent)) (inState left (s b)) (parting left (s b))
+      cond-ind (λ x. Outcome n s (leave b) (done (put s b x))) (hasOut (s b .sent)) (inState left (s b)) (parting left (s b))
       (λ e. moved b _ (leaves-silent b (bench-in n b e₁) (not-true (isGone (s b .state)) e₃) e))
       (λ e. moved b _ (leaves b (bench-in n b e₁) (not-true (isGone (s b .state)) e₃) e))
 
@@ -125,17 +125,17 @@ module _ (n : ℕ) (lim : Limit) (s : Run) where
 
   turn-moves : (b : ℕ) → Moved (turn b)
   unfolding checks after turned
-  turn-moves b (also i₁ c₁ l₁ e₁ (also i₃ c₃ l₃ e₃ (also i₁₁ c₁₁ l₁₁ e₁₁ (also i₁₂ c₁₂ l₁₂ e₁₂ nothing)))) =
-      cond-ind (λ x. Outcome n lim s (turn b) (done (put s b x))) (decides n b (s b)) (deciding (s b)) (advancing n b (s b))
+  turn-moves b (also i₁ c₁ l₁ e₁ (also i₃ c₃ l₃ e₃ (also i₁₁ c₁₁ l₁₁ e₁₁ nothing))) =
+      cond-ind (λ x. Outcome n s (turn b) (done (put s b x))) (decides n b (s b)) (deciding (s b)) (advancing n b (s b))
       (λ e. moved b _ (concludes b (bench-in n b e₁) (running-is (s b .state) e₃) e))
-      (λ e. moved b _ (advances b (bench-in n b e₁) (running-is (s b .state) e₃) e e₁₁ (cc)))
+      (λ e. moved b _ (advances b (bench-in n b e₁) (running-is (s b .state) e₃) e e₁₁))
 
   arrive-moves : (b f : ℕ) → Moved (arrive b f)
   unfolding checks after live
   arrive-moves b f (also i₁ c₁ l₁ e₁ (also i₂ c₂ l₂ e₂ (also i₃ c₃ l₃ e₃ (also i₉ c₉ l₉ e₉ (also i₈ c₈ l₈ e₈ nothing))))) =
       let p = both (isBench n b) (isBench n f) e₁ in take (waiting s b f) refl e₈ (bench-in n b (p .0)) (bench-in n f (p .1))
     where
-      take : (l : List Message) → waiting s b f ≡ l → some l ≡ true → In n b → In n f → Outcome n lim s (arrive b f) (done (put s b (takingFirst f l (s b))))
+      take : (l : List Message) → waiting s b f ≡ l → some l ≡ true → In n b → In n f → Outcome n s (arrive b f) (done (put s b (takingFirst f l (s b))))
       take [] z e hb hf = clash (unfold some in cc)
       take (m ∷ q) z e hb hf = unfold takingFirst in
           moved b _ (takes b f m q hb hf (eqb-false b f (not-true (eqb b f) e₂)) e₃ (not-true (s b .noticed f) e₉) z)
@@ -155,10 +155,10 @@ module _ (n : ℕ) (lim : Limit) (s : Run) where
   moves (arrive b f) = arrive-moves b f
   moves (notice b f) = notice-moves b f
 
-  pub step-outcome : (a : Step) → Outcome n lim s a (step n lim s a)
+  pub step-outcome : (a : Step) → Outcome n s a (step n s a)
   unfolding step
-  step-outcome a = judge-ind (Outcome n lim s a) (λ k. refuse k s) (checks n lim s a) (done (after n s a)) positive (moves a)
+  step-outcome a = judge-ind (Outcome n s a) (λ k. refuse k s) (checks n s a) (done (after n s a)) positive (moves a)
     where
-      positive : (k : ℕ) → Fails (checks n lim s a) k → Outcome n lim s a (refuse k s)
-      positive zero f = absurd (omega (arith, refusal-range n lim s a zero f))
+      positive : (k : ℕ) → Fails (checks n s a) k → Outcome n s a (refuse k s)
+      positive zero f = absurd (omega (arith, refusal-range n s a zero f))
       positive (suc k) f = refused k f

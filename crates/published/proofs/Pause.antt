@@ -7,7 +7,7 @@ use mathlib.Core.List.{List, [], _∷_}
 use native.Mathlib.Omega.{arith}
 use lib.Dec.{eqb}
 use borrow.Author.Tests.{eqb-true, eqb-false, eq-eqb}
-use Rattle.published.specs.Rounds.{Run, Bench, found, heard, running, failed, find, hasOut, got, see, agrees, isAwaited, decides, decidesOn, settled, settledOn, Limit, Step, fail, Answer, refuse, done, step, runFrom}
+use Rattle.published.specs.Rounds.{Run, Bench, found, heard, running, failed, find, hasOut, got, see, agrees, isAwaited, decides, decidesOn, settled, settledOn, Step, fail, Answer, refuse, done, step, runFrom}
 use Rattle.published.specs.Proposals.{M}
 use Rattle.published.specs.Accepted.{here, later}
 use Rattle.published.specs.Pause.{NoRoundAbove, NoFailDone}
@@ -96,9 +96,9 @@ module _ (n : ℕ) (s : Run) (h : Base n s) (r : ℕ) (pos : 1 ≤ r) (fb : None
 
 -- ---- a move
 
-module _ (n : ℕ) (lim : Limit) (s : Run) (h : Base n s) (a : Step) (b : ℕ) (x : Bench) (mv : Move n lim s a b x) (r : ℕ) where
+module _ (n : ℕ) (s : Run) (h : Base n s) (a : Step) (b : ℕ) (x : Bench) (mv : Move n s a b x) (r : ℕ) where
   pub none-above-move : 1 ≤ r → NoneFailedAbove r s → NoRoundAbove (r + 2) s → NoRoundAbove (r + 2) (put s b x)
-  none-above-move pos fb rb d q v w m = let f = effect n lim s h a b x mv in elim (old-new s b x (f .extra) (f .change) d q v w m) [
+  none-above-move pos fb rb d q v w m = let f = effect n s h a b x mv in elim (old-new s b x (f .extra) (f .change) d q v w m) [
     | old m′ ↦ rb d q v w m′
     | new e z ↦ elim (f .news q v w z .sends) [
       | at-start e₁ ↦ omega arith
@@ -116,25 +116,25 @@ record Late (n r : ℕ) (s : Run) : Type 0 where
   pub fb : NoneFailedAbove r s
   pub rb : NoRoundAbove (r + 2) s
 
-module _ (n : ℕ) (lim : Limit) (r : ℕ) (pos : 1 ≤ r) where
-  late-move : (s : Run) → Late n r s → (a : Step) (b : ℕ) (x : Bench) → Move n lim s a b x → (a ≡ fail b → ⊥) → Late n r (put s b x)
+module _ (n : ℕ) (r : ℕ) (pos : 1 ≤ r) where
+  late-move : (s : Run) → Late n r s → (a : Step) (b : ℕ) (x : Bench) → Move n s a b x → (a ≡ fail b → ⊥) → Late n r (put s b x)
   late-move s h a b x mv ne = record {
-    base = base-move n lim s (h .base) a b x mv;
-    fb = elim (fate n lim s a b x mv) [ fell e hb f ↦ absurd (ne e) | stands u ↦ none-failed-move n lim s (h .base) a b x mv r u (h .fb) ];
-    rb = none-above-move n lim s (h .base) a b x mv r pos (h .fb) (h .rb);
+    base = base-move n s (h .base) a b x mv;
+    fb = elim (fate n s a b x mv) [ fell e hb f ↦ absurd (ne e) | stands u ↦ none-failed-move n s (h .base) a b x mv r u (h .fb) ];
+    rb = none-above-move n s (h .base) a b x mv r pos (h .fb) (h .rb);
   }
 
-  late-outcome : (s : Run) → Late n r s → (a : Step) (k : Answer) → Outcome n lim s a k → ((b : ℕ) → a ≡ fail b → k .number ≡ 0 → ⊥) → Late n r (k .run)
+  late-outcome : (s : Run) → Late n r s → (a : Step) (k : Answer) → Outcome n s a k → ((b : ℕ) → a ≡ fail b → k .number ≡ 0 → ⊥) → Late n r (k .run)
   unfolding refuse done
   late-outcome s h a k (refused j f) ne = h
   late-outcome s h a k (moved b x mv) ne = late-move s h a b x mv (λ e. ne b e refl)
 
-  late-from : (s : Run) → Late n r s → (l : List Step) → NoFailDone n lim s l → Late n r (runFrom n lim s l)
+  late-from : (s : Run) → Late n r s → (l : List Step) → NoFailDone n s l → Late n r (runFrom n s l)
   unfolding runFrom
   late-from s h [] nf = h
-  late-from s h (a ∷ l) nf = late-from (step n lim s a .run)
-      (late-outcome s h a (step n lim s a) (step-outcome n lim s a) (λ b e z. nf b (rw e (here s l (rw e at z)))))
+  late-from s h (a ∷ l) nf = late-from (step n s a .run)
+      (late-outcome s h a (step n s a) (step-outcome n s a) (λ b e z. nf b (rw e (here s l (rw e at z)))))
       l (λ b g. nf b (later s a l g))
 
-  pub two-more : (s : Run) → Base n s → NoRoundAbove r s → (l : List Step) → NoFailDone n lim s l → NoRoundAbove (r + 2) (runFrom n lim s l)
+  pub two-more : (s : Run) → Base n s → NoRoundAbove r s → (l : List Step) → NoFailDone n s l → NoRoundAbove (r + 2) (runFrom n s l)
   two-more s h none l nf = late-from s (record { base = h; fb = λ b q v w k m. none b q v w m; rb = λ b q v w m. omega (arith, none b q v w m) }) l nf .rb

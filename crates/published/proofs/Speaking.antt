@@ -6,7 +6,7 @@ use mathlib.Core.Bool.{true}
 use mathlib.Core.List.{[], _∷_, _++_}
 use native.Mathlib.Omega.{arith}
 use lib.ListN.{length}
-use Rattle.published.specs.Rounds.{Run, Bench, Message, Round, Out, running, isFresh, isRunning, inState, inRound, sending, choosing, entering, parting, deciding, advancing, Limit, Step, start, abstain, leave, fail, turn, Answer, refuse, done, step}
+use Rattle.published.specs.Rounds.{Run, Bench, Message, Round, Out, running, isFresh, isRunning, inState, inRound, sending, choosing, entering, parting, deciding, advancing, Step, start, abstain, leave, fail, turn, Answer, refuse, done, step}
 use Rattle.common.specs.Updates.{put}
 use Rattle.common.proofs.Tests.{clash}
 use Rattle.published.proofs.Messages.{length-last}
@@ -34,9 +34,9 @@ pub data Went (s : Run) (b most : ℕ) (r : Run) : Type 0 where
 one-last : (x : Bench) (m : Message) → length (x .sent ++ (m ∷ [])) ≡ 1 + length (x .sent)
 one-last x m = omega (arith, length-last (x .sent) m)
 
-module _ (n : ℕ) (lim : Limit) (s : Run) where
+module _ (n : ℕ) (s : Run) where
   abbrev Comes : Step → Answer → Type 0
-  Comes a r = Outcome n lim s a r
+  Comes a r = Outcome n s a r
 
   said-start : (b v w : ℕ) (r : Answer) → Comes (start b v w) r → r .number ≡ 0 → Spoke s b (r .run)
   unfolding refuse done entering sending inRound live isFresh isRunning
@@ -70,7 +70,7 @@ module _ (n : ℕ) (lim : Limit) (s : Run) where
     },
     k,
   )
-  said-turn b r (moved c x (advances _ hb k d t y)) e = (
+  said-turn b r (moved c x (advances _ hb k d t)) e = (
     record {
       bench = _;
       run-is = refl;
@@ -96,17 +96,17 @@ module _ (n : ℕ) (lim : Limit) (s : Run) where
 
   -- ---- what is shown
 
-  pub start-spoke : (b v w : ℕ) → step n lim s (start b v w) .number ≡ 0 → Spoke s b (step n lim s (start b v w) .run)
-  start-spoke b v w = said-start b v w (step n lim s (start b v w)) (step-outcome n lim s (start b v w))
+  pub start-spoke : (b v w : ℕ) → step n s (start b v w) .number ≡ 0 → Spoke s b (step n s (start b v w) .run)
+  start-spoke b v w = said-start b v w (step n s (start b v w)) (step-outcome n s (start b v w))
 
-  pub abstain-spoke : (b : ℕ) → step n lim s (abstain b) .number ≡ 0 → Spoke s b (step n lim s (abstain b) .run)
-  abstain-spoke b = said-abstain b (step n lim s (abstain b)) (step-outcome n lim s (abstain b))
+  pub abstain-spoke : (b : ℕ) → step n s (abstain b) .number ≡ 0 → Spoke s b (step n s (abstain b) .run)
+  abstain-spoke b = said-abstain b (step n s (abstain b)) (step-outcome n s (abstain b))
 
-  pub turn-spoke : (b : ℕ) → step n lim s (turn b) .number ≡ 0 → Spoke s b (step n lim s (turn b) .run) × (s b .state ≡ running)
-  turn-spoke b = said-turn b (step n lim s (turn b)) (step-outcome n lim s (turn b))
+  pub turn-spoke : (b : ℕ) → step n s (turn b) .number ≡ 0 → Spoke s b (step n s (turn b) .run) × (s b .state ≡ running)
+  turn-spoke b = said-turn b (step n s (turn b)) (step-outcome n s (turn b))
 
-  pub leave-went : (b : ℕ) → Went s b 1 (step n lim s (leave b) .run)
-  leave-went b = went-leave b (step n lim s (leave b)) (step-outcome n lim s (leave b))
+  pub leave-went : (b : ℕ) → Went s b 1 (step n s (leave b) .run)
+  leave-went b = went-leave b (step n s (leave b)) (step-outcome n s (leave b))
 
-  pub fail-went : (b : ℕ) → Went s b 0 (step n lim s (fail b) .run)
-  fail-went b = went-fail b (step n lim s (fail b)) (step-outcome n lim s (fail b))
+  pub fail-went : (b : ℕ) → Went s b 0 (step n s (fail b) .run)
+  fail-went b = went-fail b (step n s (fail b)) (step-outcome n s (fail b))

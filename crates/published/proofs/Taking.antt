@@ -5,7 +5,7 @@ use Prim.Native.Nat.{ℕ, _<_}
 use mathlib.Core.Bool.{true, false}
 use mathlib.Core.List.{List, _∷_}
 use lib.ListN.{length}
-use Rattle.published.specs.Rounds.{Run, Bench, Message, failed, isFailed, waiting, some, taking, takingFirst, noticing, Limit, arrive, notice, after, Answer, refuse, done, step}
+use Rattle.published.specs.Rounds.{Run, Bench, Message, failed, isFailed, waiting, some, taking, takingFirst, noticing, arrive, notice, after, Answer, refuse, done, step}
 use Rattle.common.specs.Benches.{In}
 use Rattle.common.specs.Updates.{put}
 use Rattle.common.proofs.Tests.{split}
@@ -33,38 +33,38 @@ pub waiting-some : (s : Run) (b f : ℕ) → length (s b .taken f) < length (s f
 unfolding waiting
 waiting-some s b f h = drop-some (length (s b .taken f)) (s f .sent) h
 
-module _ (n : ℕ) (lim : Limit) (s : Run) where
-  arrive-outcome : (b f : ℕ) (r : Answer) → Outcome n lim s (arrive b f) r → Took s b f (r .run)
+module _ (n : ℕ) (s : Run) where
+  arrive-outcome : (b f : ℕ) (r : Answer) → Outcome n s (arrive b f) r → Took s b f (r .run)
   unfolding refuse done
   arrive-outcome b f r (refused k e) = took-none refl
   arrive-outcome b f r (moved c x (takes _ _ m q hb hf ne l z e)) = took m q e refl
 
-  notice-outcome : (b f : ℕ) (r : Answer) → Outcome n lim s (notice b f) r → Noted s b f (r .run)
+  notice-outcome : (b f : ℕ) (r : Answer) → Outcome n s (notice b f) r → Noted s b f (r .run)
   unfolding refuse done
   notice-outcome b f r (refused k e) = noted-none refl
   notice-outcome b f r (moved c x (notices _ _ hb hf ne l e z)) = noted refl
 
-  pub arrive-took : (b f : ℕ) → Took s b f (step n lim s (arrive b f) .run)
-  arrive-took b f = arrive-outcome b f (step n lim s (arrive b f)) (step-outcome n lim s (arrive b f))
+  pub arrive-took : (b f : ℕ) → Took s b f (step n s (arrive b f) .run)
+  arrive-took b f = arrive-outcome b f (step n s (arrive b f)) (step-outcome n s (arrive b f))
 
-  pub notice-noted : (b f : ℕ) → Noted s b f (step n lim s (notice b f) .run)
-  notice-noted b f = notice-outcome b f (step n lim s (notice b f)) (step-outcome n lim s (notice b f))
+  pub notice-noted : (b f : ℕ) → Noted s b f (step n s (notice b f) .run)
+  notice-noted b f = notice-outcome b f (step n s (notice b f)) (step-outcome n s (notice b f))
 
   module _ (b f : ℕ) (hb : In n b) (hf : In n f) (ne : b ≡ f → ⊥) (l : live (s b .state) ≡ true) where
     -- a fresh or running bench takes what waits on an open line
-    pub arrive-takes : s b .noticed f ≡ false → length (s b .taken f) < length (s f .sent) → (m : Message) × (step n lim s (arrive b f) .run ≡ put s b (taking f m (s b)))
+    pub arrive-takes : s b .noticed f ≡ false → length (s b .taken f) < length (s f .sent) → (m : Message) × (step n s (arrive b f) .run ≡ put s b (taking f m (s b)))
     unfolding after done takingFirst some
     arrive-takes g h = let z = waiting-some s b f h in
-        (z .0, ap (λ (r : Answer). r .run) (step-holds n lim s (arrive b f) (arrive-holds n lim s b f hb hf ne l g (rw (z .2) refl))) ∙ rw (z .2) refl)
+        (z .0, ap (λ (r : Answer). r .run) (step-holds n s (arrive b f) (arrive-holds n s b f hb hf ne l g (rw (z .2) refl))) ∙ rw (z .2) refl)
 
     -- and notices who has failed, now or before
-    pub notice-notes : s f .state ≡ failed → step n lim s (notice b f) .run b .noticed f ≡ true
+    pub notice-notes : s f .state ≡ failed → step n s (notice b f) .run b .noticed f ≡ true
     unfolding after done isFailed noticing
     notice-notes e = split (s b .noticed f)
         (λ g. noticed-still (notice-noted b f) g)
-        (λ g. ap (λ (r : Answer). r .run b .noticed f) (step-holds n lim s (notice b f) (notice-holds n lim s b f hb hf ne l g (rw e refl)))
+        (λ g. ap (λ (r : Answer). r .run b .noticed f) (step-holds n s (notice b f) (notice-holds n s b f hb hf ne l g (rw e refl)))
         ∙ ap (λ (y : Bench). y .noticed f) (put-same s b (noticing f (s b))) ∙ put-same (s b .noticed) f true)
       where
-        noticed-still : Noted s b f (step n lim s (notice b f) .run) → s b .noticed f ≡ true → step n lim s (notice b f) .run b .noticed f ≡ true
+        noticed-still : Noted s b f (step n s (notice b f) .run) → s b .noticed f ≡ true → step n s (notice b f) .run b .noticed f ≡ true
         noticed-still (noted-none q) g = rw q g
         noticed-still (noted q) g = rw q (rw put-same (unfold noticing in put-same (s b .noticed) f true))

@@ -4,7 +4,7 @@ use Prim.Native.Nat.{ℕ}
 use mathlib.Core.Bool.{cond, _&&_}
 use mathlib.Core.List.{List, [], _∷_, _++_}
 use lib.Dec.{eqb}
-use Rattle.published.specs.Rounds.{Run, Bench, Message, abstained, failed, inState, entering, parting, leaving, turned, taking, noticing, waiting, Limit, Step, start, abstain, leave, fail, turn, arrive, notice, step}
+use Rattle.published.specs.Rounds.{Run, Bench, Message, abstained, failed, inState, entering, parting, leaving, turned, taking, noticing, waiting, Step, start, abstain, leave, fail, turn, arrive, notice, step}
 
 -- ---- what befalls a bench
 
@@ -54,9 +54,9 @@ eventsOf s (arrive b f) = tookFirst f (waiting s b f)
 eventsOf s (notice b f) = noticed f ∷ []
 
 -- what a step brings to bench b: something only where it is done, and done at b
-unfoldable pub brings : ℕ → Limit → Run → ℕ → Step → List Event
-brings n lim s b a = cond (eqb (step n lim s a .number) 0 && eqb (benchOf a) b) (eventsOf s a) []
+unfoldable pub brings : ℕ → Run → ℕ → Step → List Event
+brings n s b a = cond (eqb (step n s a .number) 0 && eqb (benchOf a) b) (eventsOf s a) []
 
-unfoldable pub history : ℕ → Limit → Run → ℕ → List Step → List Event
-history n lim s b [] = []
-history n lim s b (a ∷ l) = brings n lim s b a ++ history n lim (step n lim s a .run) b l
+unfoldable pub history : ℕ → Run → ℕ → List Step → List Event
+history n s b [] = []
+history n s b (a ∷ l) = brings n s b a ++ history n (step n s a .run) b l

@@ -2,7 +2,7 @@
 -- This file is to be believed.
 use mathlib.Core.Path.{_≡_}
 use Prim.Native.Nat.{ℕ, _≤_}
-use Rattle.published.specs.Rounds.{Run, found, find, Limit, Step, start, step}
+use Rattle.published.specs.Rounds.{Run, found, find, Step, start, step}
 
 -- bench f has sent the round r message with value v and world w; the value of its round 1 message is its proposal
 abbrev pub M : Run → ℕ → ℕ → ℕ → ℕ → Type 0
@@ -22,6 +22,6 @@ pub record NotAboveOwn (s : Run) (i d : ℕ) : Type 0 where
   pub not-above : d ≤ own-value
 
 -- where a proposal of bench i after a step comes from: it was there before, or the step is a start that is done
-pub data Proposal (n : ℕ) (lim : Limit) (s : Run) (a : Step) (i v w : ℕ) : Type 0 where
-  earlier : M s i 1 v w → Proposal n lim s a i v w
-  now : a ≡ start i v w → step n lim s a .number ≡ 0 → Proposal n lim s a i v w
+pub data Proposal (n : ℕ) (s : Run) (a : Step) (i v w : ℕ) : Type 0 where
+  earlier : M s i 1 v w → Proposal n s a i v w
+  now : a ≡ start i v w → step n s a .number ≡ 0 → Proposal n s a i v w

@@ -1,4 +1,4 @@
--- The published rounds, as document 01 states them, for a table of n benches and an optional limit on rounds.
+-- The published rounds, as documents 01 and 02 state them, for a table of n benches.
 -- This file is to be believed: it says again, in document 01's words and order, what every promise about a run comes down to.
 use Prim.Native.Nat.{ℕ, zero, suc, _^_, min}
 use mathlib.Core.Bool.{Bool, true, false, cond, not, _&&_, _||_}
@@ -239,15 +239,6 @@ unfoldable pub takingFirst : ℕ → List Message → Bench → Bench
 takingFirst f [] x = x
 takingFirst f (m ∷ l) x = taking f m x
 
--- no limit on rounds, or the highest round
-pub data Limit : Type 0 where
-  unlimited : Limit
-  upTo : ℕ → Limit
-
-unfoldable pub allows : Limit → ℕ → Bool
-allows unlimited r = true
-allows (upTo k) r = leb r k
-
 -- ---- The steps
 
 pub data Step : Type 0 where
@@ -255,21 +246,19 @@ pub data Step : Type 0 where
   abstain leave fail turn : ℕ → Step
   arrive notice : ℕ → ℕ → Step
 
--- the checks of each step, in document 01's order
-unfoldable pub checks : ℕ → Limit → Run → Step → List Check
-checks n lim s (start b v w) =
+-- the checks of each step, in document 01's order; its check 12 is retired (specs/Limited.antt)
+unfoldable pub checks : ℕ → Run → Step → List Check
+checks n s (start b v w) =
     needs 1 (isBench n b) ∷ needs 3 (isFresh (s b .state)) ∷ needs 4 (leb v 65535) ∷ needs 5 (ltb w (2 ^ n) && member b w)
     ∷ needs 6 (hasAll n s w) ∷ needs 7 (inAll n s b) ∷ []
-checks n lim s (abstain b) = needs 1 (isBench n b) ∷ needs 3 (isFresh (s b .state)) ∷ []
-checks n lim s (leave b) = needs 1 (isBench n b) ∷ needs 3 (not (isGone (s b .state))) ∷ []
-checks n lim s (fail b) = needs 1 (isBench n b) ∷ needs 3 (not (isGone (s b .state))) ∷ []
-checks n lim s (turn b) =
-    needs 1 (isBench n b) ∷ needs 3 (isRunning (s b .state)) ∷ needs 11 (settled n b (s b))
-    ∷ needs 12 (decides n b (s b) || allows lim (suc (s b .round))) ∷ []
-checks n lim s (arrive b f) =
+checks n s (abstain b) = needs 1 (isBench n b) ∷ needs 3 (isFresh (s b .state)) ∷ []
+checks n s (leave b) = needs 1 (isBench n b) ∷ needs 3 (not (isGone (s b .state))) ∷ []
+checks n s (fail b) = needs 1 (isBench n b) ∷ needs 3 (not (isGone (s b .state))) ∷ []
+checks n s (turn b) = needs 1 (isBench n b) ∷ needs 3 (isRunning (s b .state)) ∷ needs 11 (settled n b (s b)) ∷ []
+checks n s (arrive b f) =
     needs 1 (isBench n b && isBench n f) ∷ needs 2 (not (eqb b f)) ∷ needs 3 (isFresh (s b .state) || isRunning (s b .state))
     ∷ needs 9 (not (s b .noticed f)) ∷ needs 8 (some (waiting s b f)) ∷ []
-checks n lim s (notice b f) =
+checks n s (notice b f) =
     needs 1 (isBench n b && isBench n f) ∷ needs 2 (not (eqb b f)) ∷ needs 3 (isFresh (s b .state) || isRunning (s b .state))
     ∷ needs 10 (isFailed (s f .state)) ∷ needs 9 (not (s b .noticed f)) ∷ []
 
@@ -295,13 +284,13 @@ unfoldable pub done : Run → Answer
 done s = record { number = 0; run = s }
 
 -- the first check that fails refuses
-unfoldable pub step : ℕ → Limit → Run → Step → Answer
-step n lim s a = judge (λ k. refuse k s) (checks n lim s a) (done (after n s a))
+unfoldable pub step : ℕ → Run → Step → Answer
+step n s a = judge (λ k. refuse k s) (checks n s a) (done (after n s a))
 
-unfoldable pub runFrom : ℕ → Limit → Run → List Step → Run
-runFrom n lim s [] = s
-runFrom n lim s (a ∷ l) = runFrom n lim (step n lim s a .run) l
+unfoldable pub runFrom : ℕ → Run → List Step → Run
+runFrom n s [] = s
+runFrom n s (a ∷ l) = runFrom n (step n s a .run) l
 
-unfoldable pub answers : ℕ → Limit → Run → List Step → List ℕ
-answers n lim s [] = []
-answers n lim s (a ∷ l) = step n lim s a .number ∷ answers n lim (step n lim s a .run) l
+unfoldable pub answers : ℕ → Run → List Step → List ℕ
+answers n s [] = []
+answers n s (a ∷ l) = step n s a .number ∷ answers n (step n s a .run) l

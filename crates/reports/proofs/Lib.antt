@@ -8,5 +8,5 @@ pub mod LedgerLengths
 pub mod WholeCase
 pub mod LedgerExample
 pub mod Decisions
-pub mod Pause
+pub mod Rounds
 pub mod Theorems

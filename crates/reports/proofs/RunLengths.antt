@@ -7,14 +7,14 @@ use mathlib.Core.List.{List, [], _∷_, map}
 use mathlib.Core.Logic.{⊎-elim}
 use mathlib.Core.Path.{_≡_, refl, ap, _∙_}
 use lib.ListN.{length, length-append, length-map}
-use Rattle.published.specs.Rounds.{Run, Bench, newRun, newBench, isFresh, Limit, upTo, Step, Answer, refuse, done, step, runFrom}
+use Rattle.published.specs.Rounds.{Run, Bench, newRun, newBench, isFresh, Step, Answer, refuse, done, step, runFrom}
 use Rattle.common.specs.Updates.{put}
 use Rattle.common.proofs.Tests.{split}
 use Rattle.common.proofs.Updates.{put-ind}
 use Rattle.published.proofs.Numbers.{refusal-range}
 use Rattle.published.proofs.Moves.{Outcome, refused, moved, step-outcome}
 use Rattle.kinds.specs.declared.Size.{Size}
-use Rattle.kinds.specs.Sizes.{benchesOf, roundsOf}
+use Rattle.kinds.specs.Sizes.{benchesOf}
 use Rattle.kinds.proofs.Sizes.{benches-fit, places-fit}
 use Rattle.kinds.specs.declared.Step as kinds
 use Rattle.kinds.specs.declared.Step.the-variants.{Start, Abstain, Leave, Fail, Turn, Arrive, Notice}
@@ -115,24 +115,24 @@ benches-length (suc n) s = simp length-append (omega (arith, benches-length n s,
 
 -- ---- a step is answered by a small number, and lets one bench more be not fresh
 
-module _ (n : ℕ) (limit : Limit) where
-  outcome-small : (s : Run) (a : Step) (r : Answer) → Outcome n limit s a r → (r .number < 100) × (stood n (r .run) ≤ stood n s + 1)
+module _ (n : ℕ) where
+  outcome-small : (s : Run) (a : Step) (r : Answer) → Outcome n s a r → (r .number < 100) × (stood n (r .run) ≤ stood n s + 1)
   unfolding refuse done
-  outcome-small s a r (refused k f) = (omega (arith, refusal-range n limit s a (suc k) f), omega arith)
+  outcome-small s a r (refused k f) = (omega (arith, refusal-range n s a (suc k) f), omega arith)
   outcome-small s a r (moved b x m) = (omega arith, stood-put n b s x)
 
-  step-small : (s : Run) (a : Step) → (step n limit s a .number < 100) × (stood n (step n limit s a .run) ≤ stood n s + 1)
-  step-small s a = outcome-small s a (step n limit s a) (step-outcome n limit s a)
+  step-small : (s : Run) (a : Step) → (step n s a .number < 100) × (stood n (step n s a .run) ≤ stood n s + 1)
+  step-small s a = outcome-small s a (step n s a) (step-outcome n s a)
 
-  stood-after : (s : Run) (l : List Step) → stood n (runFrom n limit s l) ≤ stood n s + length l
+  stood-after : (s : Run) (l : List Step) → stood n (runFrom n s l) ≤ stood n s + length l
   unfolding runFrom
   stood-after s [] = omega arith
-  stood-after s (a ∷ l) = omega (arith, stood-after (step n limit s a .run) l, step-small s a .1)
+  stood-after s (a ∷ l) = omega (arith, stood-after (step n s a .run) l, step-small s a .1)
 
 module _ (size : Size) where
   answer-below : (s : Run) (x : Said) → answerTo size s x .number < 100
   unfolding answerTo refuse
-  answer-below s (Does a) = step-small (benchesOf size) (upTo (roundsOf size)) s (stepOf a) .0
+  answer-below s (Does a) = step-small (benchesOf size) s (stepOf a) .0
   answer-below s Malformed = omega arith
 
   answers-below : (s : Run) (l : List Said) → Below (answersFrom size s l)
@@ -211,7 +211,7 @@ module _ (size : Size) (text : List ℕ) where
       let few : n ≤ length text = omega (arith, lines-are, lines-few text) in
       let paid : n + 17 * length steps ≤ length text + 1 = omega (arith, lines-are, steps-are) in
       let a : length (answerLines 1 answers) ≤ 16 * n + digitsUpto n = omega (arith, from-first answers (answers-below size newRun (readText benches text)) (omega arith)) in
-      let b : length (benchLines benches final) ≤ 67 * length steps = omega (arith, benches-length benches final, stood-after benches (upTo (roundsOf size)) newRun steps, stood-new benches) in
+      let b : length (benchLines benches final) ≤ 67 * length steps = omega (arith, benches-length benches final, stood-after benches newRun steps, stood-new benches) in
       let t : length (totalsOf answers) ≤ 26 = omega (arith, totals-of-length answers, small-length n (omega arith), small-length (refusedIn answers) (omega (arith, refused-few answers))) in
       omega (arith, parts-length, most n (length steps) (omega arith) (omega arith))
 

@@ -1,14 +1,15 @@
 -- What is proved of both reports: what is promised settles everything, nothing is written on a refusal, how long a report can be, document 01's whole
 -- case and a ledger script byte for byte, that all decisions of a report agree, and how far its rounds can go. Each statement stands below its words, the
 -- proofs are in the other files. Assumes nothing.
-use Prim.Native.Nat.{ℕ, _+_, _≤_}
+use Prim.Native.Nat.{ℕ, _+_, _*_, _≤_}
 use mathlib.Core.List.{List, _++_}
 use mathlib.Core.Path.{_≡_}
 use lib.ListN.{length, getD, take}
-use Rattle.published.specs.Rounds.{newRun, chosen, start, upTo}
+use Rattle.common.specs.Lists.{OneOf}
+use Rattle.published.specs.Rounds.{newRun, chosen, start}
 use Rattle.kinds.specs.declared.Size.{Size}
 use Rattle.kinds.specs.declared.Size.the-variants.{Sixteen}
-use Rattle.kinds.specs.Sizes.{benchesOf, roundsOf}
+use Rattle.kinds.specs.Sizes.{benchesOf}
 use Rattle.spelling.specs.Text.{readText}
 use Rattle.reports.specs.declared.Reported.{Reported}
 use Rattle.reports.specs.declared.Reported.the-variants.{Length}
@@ -24,7 +25,7 @@ use Rattle.reports.proofs.RunLengths as run
 use Rattle.reports.proofs.LedgerLengths as ledger
 use Rattle.reports.proofs.Decisions as decisions
 use Rattle.reports.proofs.LastRounds.{last-round}
-use Rattle.reports.proofs.Pause as pause
+use Rattle.reports.proofs.Rounds as rounds
 use Rattle.reports.proofs.WholeCase as case
 use Rattle.reports.proofs.LedgerExample as script
 
@@ -107,24 +108,34 @@ pub report-agrees : (size : Size) (text : List ℕ) (i j d e : ℕ) → runAfter
 report-agrees = decisions.report-agrees
 
 -- Each is a value that some accepted start line of the text gave.
-pub report-valid : (size : Size) (text : List ℕ) (i d : ℕ) → runAfter size text i .decision ≡ chosen d → (b : ℕ) × (w : ℕ) × Accepted (benchesOf size) (upTo (roundsOf size)) (start b d w) newRun (stepsOf (readText (benchesOf size) text))
+pub report-valid : (size : Size) (text : List ℕ) (i d : ℕ) → runAfter size text i .decision ≡ chosen d → (b : ℕ) × (w : ℕ) × Accepted (benchesOf size) (start b d w) newRun (stepsOf (readText (benchesOf size) text))
 report-valid = decisions.report-valid
 
 -- And it is not above the value that the bench's own accepted start line gave.
-pub report-bounded : (size : Size) (text : List ℕ) (i d : ℕ) → runAfter size text i .decision ≡ chosen d → (v : ℕ) × (w : ℕ) × Accepted (benchesOf size) (upTo (roundsOf size)) (start i v w) newRun (stepsOf (readText (benchesOf size) text)) × (d ≤ v)
+pub report-bounded : (size : Size) (text : List ℕ) (i d : ℕ) → runAfter size text i .decision ≡ chosen d → (v : ℕ) × (w : ℕ) × Accepted (benchesOf size) (start i v w) newRun (stepsOf (readText (benchesOf size) text)) × (d ≤ v)
 report-bounded = decisions.report-bounded
 
 -- ---- W8: the rounds of a run text's report
 
 -- The round that is printed of a bench is the round that the bench is in.
 pub printed-round : (size : Size) (text : List ℕ) (b : ℕ) → printedRound (runAfter size text) b ≡ runAfter size text b .round
-printed-round size text = last-round (benchesOf size) (upTo (roundsOf size)) (stepsOf (readText (benchesOf size) text))
+printed-round size text = last-round (benchesOf size) (stepsOf (readText (benchesOf size) text))
 
 -- Where the first k lines leave no bench in a round above r, r being at least 1, and none of the lines behind them is a fail line that is done, no round above r + 2 is printed.
 pub report-two-more : (size : Size) (text : List ℕ) (k r : ℕ) → 1 ≤ r → ((b : ℕ) → printedRound (runAt size text k) b ≤ r)
-    → NoFailDone (benchesOf size) (upTo (roundsOf size)) (runAt size text k) (stepsBehind size text k) → (b : ℕ) → printedRound (runAfter size text) b ≤ r + 2
-report-two-more = pause.report-two-more
+    → NoFailDone (benchesOf size) (runAt size text k) (stepsBehind size text k) → (b : ℕ) → printedRound (runAfter size text) b ≤ r + 2
+report-two-more = rounds.report-two-more
 
 -- Where no fail line of the text is done, no round above 3 is printed.
-pub report-three : (size : Size) (text : List ℕ) → NoFailDone (benchesOf size) (upTo (roundsOf size)) newRun (stepsOf (readText (benchesOf size) text)) → (b : ℕ) → printedRound (runAfter size text) b ≤ 3
-report-three = pause.report-three
+pub report-three : (size : Size) (text : List ℕ) → NoFailDone (benchesOf size) newRun (stepsOf (readText (benchesOf size) text)) → (b : ℕ) → printedRound (runAfter size text) b ≤ 3
+report-three = rounds.report-three
+
+-- ---- W9: how far rounds come
+
+-- No text has a round above 2 n + 1 printed: none above 33 of a class of 16.
+pub report-rounds-end : (size : Size) (text : List ℕ) (b : ℕ) → printedRound (runAfter size text) b ≤ 2 * benchesOf size + 1
+report-rounds-end = rounds.report-rounds-end
+
+-- And no line of a text is answered 12.
+pub report-never-12 : (size : Size) (text : List ℕ) → OneOf 12 (answersFrom size newRun (readText (benchesOf size) text)) → ⊥
+report-never-12 size text = rounds.never-12 size newRun (readText (benchesOf size) text)

@@ -3,14 +3,14 @@
 use mathlib.Core.List.{List}
 use Prim.Native.Nat.{ℕ}
 use lib.ListN.{take, drop}
-use Rattle.published.specs.Rounds.{Run, newRun, Step, upTo, runFrom}
+use Rattle.published.specs.Rounds.{Run, newRun, Step, runFrom}
 use Rattle.kinds.specs.declared.Size.{Size}
-use Rattle.kinds.specs.Sizes.{benchesOf, roundsOf}
+use Rattle.kinds.specs.Sizes.{benchesOf}
 use Rattle.spelling.specs.Text.{readText}
 use Rattle.reports.specs.RunReport.{stepsOf, lastRound}
 
 abbrev pub runAt : Size → List ℕ → ℕ → Run
-runAt size text k = runFrom (benchesOf size) (upTo (roundsOf size)) newRun (stepsOf (take k (readText (benchesOf size) text)))
+runAt size text k = runFrom (benchesOf size) newRun (stepsOf (take k (readText (benchesOf size) text)))
 
 abbrev pub stepsBehind : Size → List ℕ → ℕ → List Step
 stepsBehind size text k = stepsOf (drop k (readText (benchesOf size) text))

@@ -4,9 +4,9 @@ use Prim.Native.Nat.{ℕ, zero, suc, _+_}
 use mathlib.Core.Bool.{cond}
 use mathlib.Core.List.{List, [], _∷_, _++_}
 use lib.ListN.{length}
-use Rattle.published.specs.Rounds.{Message, Round, Out, State, fresh, running, decided, abstained, left, failed, Decision, none, chosen, Bench, Run, newRun, isFresh, upTo, Step, Answer, refuse, step, runFrom}
+use Rattle.published.specs.Rounds.{Message, Round, Out, State, fresh, running, decided, abstained, left, failed, Decision, none, chosen, Bench, Run, newRun, isFresh, Step, Answer, refuse, step, runFrom}
 use Rattle.kinds.specs.declared.Size.{Size}
-use Rattle.kinds.specs.Sizes.{benchesOf, roundsOf}
+use Rattle.kinds.specs.Sizes.{benchesOf}
 use Rattle.kinds.specs.Stand.{stepOf}
 use Rattle.spelling.specs.declared.Said.{Said}
 use Rattle.spelling.specs.declared.Said.the-variants.{Does, Malformed}
@@ -17,7 +17,7 @@ use Rattle.spelling.specs.Text.{readText}
 -- ---- How lines are answered: a malformed one changes nothing, and reading goes on
 
 unfoldable pub answerTo : Size → Run → Said → Answer
-answerTo size s (Does a) = step (benchesOf size) (upTo (roundsOf size)) s (stepOf a)
+answerTo size s (Does a) = step (benchesOf size) s (stepOf a)
 answerTo size s Malformed = refuse 20 s
 
 unfoldable pub answersFrom : Size → Run → List Said → List ℕ
@@ -32,7 +32,7 @@ stepsOf (Does a ∷ l) = stepOf a ∷ stepsOf l
 stepsOf (Malformed ∷ l) = stepsOf l
 
 abbrev pub runAfter : Size → List ℕ → Run
-runAfter size text = runFrom (benchesOf size) (upTo (roundsOf size)) newRun (stepsOf (readText (benchesOf size) text))
+runAfter size text = runFrom (benchesOf size) newRun (stepsOf (readText (benchesOf size) text))
 
 -- ---- One line for each input line: its number from 1, the answer
 

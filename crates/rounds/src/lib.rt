@@ -12,7 +12,7 @@ mod turns;
 ghost use mathlib.Core.Path.{_≡_};
 ghost use Rattle.published.specs.Rounds as published;
 ghost use Rattle.kinds.specs.Stand.{stepOf};
-ghost use Rattle.kinds.specs.Sizes.{benchesOf, roundsOf};
+ghost use Rattle.kinds.specs.Sizes.{benchesOf};
 ghost use Rattle.tables.specs.Steps.{Acts, tableStep, emptyTables};
 use crate::arrivals::arrive_at;
 use crate::arrivals::notice_at;
@@ -44,7 +44,7 @@ pub fn empty(benches: &mut Benches, logs: &mut Logs)
 }
 
 pub fn step(benches: &mut Benches, logs: &mut Logs, s: Step, size: Size) -> AnswerNo
-    ensures { λ r. ⌜ Acts r (now (benches .exit)) (now (logs .exit)) (tableStep (benchesOf size) (roundsOf size) (now (benches .entry)) (now (logs .entry)) (stepOf s)) ⌝ }
+    ensures { λ r. ⌜ Acts r (now (benches .exit)) (now (logs .exit)) (tableStep (benchesOf size) (now (benches .entry)) (now (logs .entry)) (stepOf s)) ⌝ }
 {
     match s {
         Step::Start(bench, value, world) => start(
@@ -73,7 +73,7 @@ pub fn start(
     world: u32,
     size: Size,
 ) -> AnswerNo
-    ensures { λ r. ⌜ Acts r (now (benches .exit)) (now (logs .exit)) (tableStep (benchesOf size) (roundsOf size) (now (benches .entry)) (now (logs .entry)) (published.start (bench .0) (value .0) world)) ⌝ }
+    ensures { λ r. ⌜ Acts r (now (benches .exit)) (now (logs .exit)) (tableStep (benchesOf size) (now (benches .entry)) (now (logs .entry)) (published.start (bench .0) (value .0) world)) ⌝ }
 {
     if !is_bench(bench, size) {
         return 1;
@@ -83,7 +83,7 @@ pub fn start(
 
 // Checks 1, 3.
 pub fn abstain(benches: &mut Benches, logs: &mut Logs, bench: BenchNo, size: Size) -> AnswerNo
-    ensures { λ r. ⌜ Acts r (now (benches .exit)) (now (logs .exit)) (tableStep (benchesOf size) (roundsOf size) (now (benches .entry)) (now (logs .entry)) (published.abstain (bench .0))) ⌝ }
+    ensures { λ r. ⌜ Acts r (now (benches .exit)) (now (logs .exit)) (tableStep (benchesOf size) (now (benches .entry)) (now (logs .entry)) (published.abstain (bench .0))) ⌝ }
 {
     if !is_bench(bench, size) {
         return 1;
@@ -93,7 +93,7 @@ pub fn abstain(benches: &mut Benches, logs: &mut Logs, bench: BenchNo, size: Siz
 
 // Checks 1, 3.
 pub fn leave(benches: &mut Benches, logs: &mut Logs, bench: BenchNo, size: Size) -> AnswerNo
-    ensures { λ r. ⌜ Acts r (now (benches .exit)) (now (logs .exit)) (tableStep (benchesOf size) (roundsOf size) (now (benches .entry)) (now (logs .entry)) (published.leave (bench .0))) ⌝ }
+    ensures { λ r. ⌜ Acts r (now (benches .exit)) (now (logs .exit)) (tableStep (benchesOf size) (now (benches .entry)) (now (logs .entry)) (published.leave (bench .0))) ⌝ }
 {
     if !is_bench(bench, size) {
         return 1;
@@ -103,7 +103,7 @@ pub fn leave(benches: &mut Benches, logs: &mut Logs, bench: BenchNo, size: Size)
 
 // Checks 1, 3.
 pub fn fail(benches: &mut Benches, logs: &mut Logs, bench: BenchNo, size: Size) -> AnswerNo
-    ensures { λ r. ⌜ Acts r (now (benches .exit)) (now (logs .exit)) (tableStep (benchesOf size) (roundsOf size) (now (benches .entry)) (now (logs .entry)) (published.fail (bench .0))) ⌝ }
+    ensures { λ r. ⌜ Acts r (now (benches .exit)) (now (logs .exit)) (tableStep (benchesOf size) (now (benches .entry)) (now (logs .entry)) (published.fail (bench .0))) ⌝ }
 {
     if !is_bench(bench, size) {
         return 1;
@@ -111,9 +111,9 @@ pub fn fail(benches: &mut Benches, logs: &mut Logs, bench: BenchNo, size: Size) 
     fail_at(&mut *benches, &mut *logs, place(bench))
 }
 
-// Checks 1, 3, 11, 12.
+// Checks 1, 3, 11.
 pub fn turn(benches: &mut Benches, logs: &mut Logs, bench: BenchNo, size: Size) -> AnswerNo
-    ensures { λ r. ⌜ Acts r (now (benches .exit)) (now (logs .exit)) (tableStep (benchesOf size) (roundsOf size) (now (benches .entry)) (now (logs .entry)) (published.turn (bench .0))) ⌝ }
+    ensures { λ r. ⌜ Acts r (now (benches .exit)) (now (logs .exit)) (tableStep (benchesOf size) (now (benches .entry)) (now (logs .entry)) (published.turn (bench .0))) ⌝ }
 {
     if !is_bench(bench, size) {
         return 1;
@@ -129,7 +129,7 @@ pub fn arrive(
     from: BenchNo,
     size: Size,
 ) -> AnswerNo
-    ensures { λ r. ⌜ Acts r (now (benches .exit)) (now (logs .exit)) (tableStep (benchesOf size) (roundsOf size) (now (benches .entry)) (now (logs .entry)) (published.arrive (bench .0) (from .0))) ⌝ }
+    ensures { λ r. ⌜ Acts r (now (benches .exit)) (now (logs .exit)) (tableStep (benchesOf size) (now (benches .entry)) (now (logs .entry)) (published.arrive (bench .0) (from .0))) ⌝ }
 {
     if !is_bench(bench, size) {
         return 1;
@@ -151,7 +151,7 @@ pub fn notice(
     from: BenchNo,
     size: Size,
 ) -> AnswerNo
-    ensures { λ r. ⌜ Acts r (now (benches .exit)) (now (logs .exit)) (tableStep (benchesOf size) (roundsOf size) (now (benches .entry)) (now (logs .entry)) (published.notice (bench .0) (from .0))) ⌝ }
+    ensures { λ r. ⌜ Acts r (now (benches .exit)) (now (logs .exit)) (tableStep (benchesOf size) (now (benches .entry)) (now (logs .entry)) (published.notice (bench .0) (from .0))) ⌝ }
 {
     if !is_bench(bench, size) {
         return 1;

@@ -1,7 +1,7 @@
 // Turn at the bench's place: what the bench makes of what it has heard, and what it sends.
 
 ghost use Prim.Native.Nat.{_<_};
-ghost use Rattle.kinds.specs.Sizes.{benchesOf, roundsOf, places};
+ghost use Rattle.kinds.specs.Sizes.{benchesOf, places};
 ghost use Rattle.tables.specs.Steps.{Acts, turnAt};
 use crate::lines::heard_by;
 use crate::rows::load;
@@ -17,7 +17,7 @@ use tables::Logs;
 // The state is looked at first, since a bench that is not running needs no more of its row.
 pub(crate) fn turn_at(benches: &mut Benches, logs: &mut Logs, k: usize, size: Size) -> AnswerNo
     requires { ⌜ k < places ⌝ }
-    ensures { λ r. ⌜ Acts r (now (benches .exit)) (now (logs .exit)) (turnAt (benchesOf size) (roundsOf size) (now (benches .entry)) (now (logs .entry)) k) ⌝ }
+    ensures { λ r. ⌜ Acts r (now (benches .exit)) (now (logs .exit)) (turnAt (benchesOf size) (now (benches .entry)) (now (logs .entry)) k) ⌝ }
 {
     if state_at(&*benches, k) != RUNNING {
         return 3;
@@ -27,7 +27,7 @@ pub(crate) fn turn_at(benches: &mut Benches, logs: &mut Logs, k: usize, size: Si
 
 fn whole_turn_at(benches: &mut Benches, logs: &mut Logs, k: usize, size: Size) -> AnswerNo
     requires { ⌜ k < places ⌝ }
-    ensures { λ r. ⌜ Acts r (now (benches .exit)) (now (logs .exit)) (turnAt (benchesOf size) (roundsOf size) (now (benches .entry)) (now (logs .entry)) k) ⌝ }
+    ensures { λ r. ⌜ Acts r (now (benches .exit)) (now (logs .exit)) (turnAt (benchesOf size) (now (benches .entry)) (now (logs .entry)) k) ⌝ }
 {
     let b = load(&*benches, k);
     let turned = b.turn(heard_by(&*benches, &*logs, k, size), size);

@@ -8,13 +8,13 @@ use lib.Dec.{ltb}
 use lib.ListN.{length, set, take, drop, length-set, drop-of-length-le}
 use lib.Seq.{take-suc-set}
 use borrow.Author.Tests.{ltb-true, ltb-false}
-use Rattle.published.specs.Rounds.{Run, newRun, refuse, upTo, runFrom}
+use Rattle.published.specs.Rounds.{Run, newRun, refuse, runFrom}
 use Rattle.common.proofs.Tests.{clash, split}
 use Rattle.kinds.specs.declared.Step.{Step}
 use Rattle.kinds.specs.Stand.{stepOf}
-use Rattle.kinds.specs.Sizes.{benchesOf, roundsOf}
+use Rattle.kinds.specs.Sizes.{benchesOf}
 use Rattle.kinds.specs.declared.Size.{Size}
-use Rattle.kinds.proofs.Sizes.{benches-fit, rounds-fit, rounds-some}
+use Rattle.kinds.proofs.Sizes.{benches-fit}
 use Rattle.tables.specs.Runs.{runOf}
 use Rattle.tables.specs.Sound.{Sound}
 use Rattle.tables.specs.Steps.{Acts, tableStep, emptyTables, refused}
@@ -33,15 +33,15 @@ use Rattle.run_report.specs.Parts.{Played}
 
 -- ---- one line
 
-module _ (z : Size) (t l : List (List ℕ)) (s : Sound (benchesOf z) (roundsOf z) t l) where
+module _ (z : Size) (t l : List (List ℕ)) (s : Sound (benchesOf z) t l) where
   -- a step is answered as the tables answer it
-  pub does-links : (x : Said) (a : Step) → x ≡ Does a → (r : ℕ) (t′ l′ : List (List ℕ)) → Acts r t′ l′ (tableStep (benchesOf z) (roundsOf z) t l (stepOf a))
-      → Links (benchesOf z) (roundsOf z) (refused r t′ l′) (answerTo z (runOf t l) x)
+  pub does-links : (x : Said) (a : Step) → x ≡ Does a → (r : ℕ) (t′ l′ : List (List ℕ)) → Acts r t′ l′ (tableStep (benchesOf z) t l (stepOf a))
+      → Links (benchesOf z) (refused r t′ l′) (answerTo z (runOf t l) x)
   unfolding answerTo
-  does-links x a e r t′ l′ p = rw e (promise-links (benchesOf z) (roundsOf z) (rounds-some z) t l s (stepOf a) r t′ l′ p)
+  does-links x a e r t′ l′ p = rw e (promise-links (benchesOf z) t l s (stepOf a) r t′ l′ p)
 
   -- a malformed line is answered 20, and changes nothing
-  pub malformed-links : (x : Said) → x ≡ Malformed → Links (benchesOf z) (roundsOf z) (refused 20 t l) (answerTo z (runOf t l) x)
+  pub malformed-links : (x : Said) → x ≡ Malformed → Links (benchesOf z) (refused 20 t l) (answerTo z (runOf t l) x)
   unfolding answerTo refuse
   malformed-links x e = rw e (record { number = refl; run = refl; sound = s })
 
@@ -82,23 +82,23 @@ module _ (z : Size) (s : Run) (x : Said) (m : List Said) where
   answers-more k r s′ e n u = ap (answersFrom z s) e ∙ ap (λ (a : ℕ). a ∷ answersFrom z (answerTo z s x .run) m) n ∙ ap (λ (w : Run). r ∷ answersFrom z w m) u
 
 run-more : (z : Size) (s : Run) (x : Said) (m k : List Said) (s′ : Run) → k ≡ x ∷ m → answerTo z s x .run ≡ s′
-    → runFrom (benchesOf z) (upTo (roundsOf z)) s (stepsOf k) ≡ runFrom (benchesOf z) (upTo (roundsOf z)) s′ (stepsOf m)
+    → runFrom (benchesOf z) s (stepsOf k) ≡ runFrom (benchesOf z) s′ (stepsOf m)
 unfolding stepsOf runFrom answerTo refuse
-run-more z s (Does a) m k s′ e u = rw e (ap (λ (w : Run). runFrom (benchesOf z) (upTo (roundsOf z)) w (stepsOf m)) u)
-run-more z s Malformed m k s′ e u = rw e (ap (λ (w : Run). runFrom (benchesOf z) (upTo (roundsOf z)) w (stepsOf m)) u)
+run-more z s (Does a) m k s′ e u = rw e (ap (λ (w : Run). runFrom (benchesOf z) w (stepsOf m)) u)
+run-more z s Malformed m k s′ e u = rw e (ap (λ (w : Run). runFrom (benchesOf z) w (stepsOf m)) u)
 
 -- ---- the text, line by line
 
 -- the first `count` lines, which stand before the place, are answered; played on from the tables, the others give the rest of the answers.
 -- answers₀ held what was there before
 pub record Playing (z : Size) (text answers₀ : List ℕ) (t l : List (List ℕ)) (answers : List ℕ) (at count : ℕ) : Type 0 where
-  pub sound : Sound (benchesOf z) (roundsOf z) t l
+  pub sound : Sound (benchesOf z) t l
   pub within : at ≤ length text
   pub few : count ≤ at
   pub long : length answers ≡ length answers₀
   pub room : length text ≤ length answers₀
   pub answered : answersFrom z newRun (readText (benchesOf z) text) ≡ take count answers ++ answersFrom z (runOf t l) (readText (benchesOf z) (drop at text))
-  pub run : runAfter z text ≡ runFrom (benchesOf z) (upTo (roundsOf z)) (runOf t l) (stepsOf (readText (benchesOf z) (drop at text)))
+  pub run : runAfter z text ≡ runFrom (benchesOf z) (runOf t l) (stepsOf (readText (benchesOf z) (drop at text)))
 
 module _ (z : Size) (text answers₀ : List ℕ) where
   pub playing-none : (t l : List (List ℕ)) → t ≡ emptyTables .benches → l ≡ emptyTables .logs
@@ -106,7 +106,7 @@ module _ (z : Size) (text answers₀ : List ℕ) where
   playing-none t l et el h =
       rw (et, el)
       (record {
-        sound = empty-sound (benchesOf z) (roundsOf z) (benches-fit z) (rounds-fit z);
+        sound = empty-sound (benchesOf z) (benches-fit z);
         within = omega arith;
         few = omega arith;
         long = refl;
@@ -125,7 +125,7 @@ module _ (z : Size) (text answers₀ : List ℕ) where
     playing-less x next e = let d = read-line-reads (benchesOf z) text at x next e in omega arith
 
     pub playing-more : (x : Said) (next : ℕ) → readLineOf (benchesOf z) text at ≡ Next x next → (r : ℕ) (t′ l′ : List (List ℕ))
-        → Links (benchesOf z) (roundsOf z) (refused r t′ l′) (answerTo z (runOf t l) x) → Playing z text answers₀ t′ l′ (set answers count r) next (count + 1)
+        → Links (benchesOf z) (refused r t′ l′) (answerTo z (runOf t l) x) → Playing z text answers₀ t′ l′ (set answers count r) next (count + 1)
     playing-more x next e r t′ l′ k =
         let d = read-line-reads (benchesOf z) text at x next e in
         record {

@@ -2,7 +2,7 @@
 ghost use mathlib.Core.Path.{_≡_};
 ghost use Prim.Native.Nat.{_≤_};
 ghost use lib.ListN.{length};
-ghost use Rattle.kinds.specs.Sizes.{benchesOf, roundsOf};
+ghost use Rattle.kinds.specs.Sizes.{benchesOf};
 ghost use Rattle.tables.specs.Runs.{runOf};
 ghost use Rattle.tables.specs.Sound.{Sound};
 ghost use Rattle.tables.specs.Steps.{emptyTables, refused};
@@ -45,8 +45,8 @@ pub(crate) fn play(
 
 // What a line is answered. A malformed one changes nothing.
 fn answer_to(benches: &mut Benches, logs: &mut Logs, line: Said, size: Size) -> AnswerNo
-    requires { ⌜ Sound (benchesOf size) (roundsOf size) (now benches) (now logs) ⌝ }
-    ensures { λ r. ⌜ Links (benchesOf size) (roundsOf size) (refused r (now (benches .exit)) (now (logs .exit))) (answerTo size (runOf (now (benches .entry)) (now (logs .entry))) line) ⌝ }
+    requires { ⌜ Sound (benchesOf size) (now benches) (now logs) ⌝ }
+    ensures { λ r. ⌜ Links (benchesOf size) (refused r (now (benches .exit)) (now (logs .exit))) (answerTo size (runOf (now (benches .entry)) (now (logs .entry))) line) ⌝ }
 {
     match line {
         Said::Does(s) => step(&mut *benches, &mut *logs, s, size),

@@ -5,7 +5,7 @@ ghost use Prim.Native.Nat.{_%_, _^_, _<_, _≤_};
 ghost use lib.Dec.{ltb};
 ghost use Rattle.common.specs.Benches.{isBench};
 ghost use Rattle.common.specs.Places.{has, placeOf};
-ghost use Rattle.kinds.specs.Sizes.{benchesOf, roundsOf, places, depth};
+ghost use Rattle.kinds.specs.Sizes.{benchesOf, places};
 use kinds::BenchNo;
 use kinds::PLACES;
 use kinds::Size;
@@ -16,15 +16,6 @@ pub fn benches_of(size: Size) -> u32
 {
     match size {
         Size::Sixteen => 16,
-    }
-}
-
-// How many rounds a bench may send.
-pub fn rounds_of(size: Size) -> u32
-    ensures { λ r. ⌜ (r ≡ roundsOf size) × (1 ≤ r) × (r ≤ depth) ⌝ }
-{
-    match size {
-        Size::Sixteen => 96,
     }
 }
 

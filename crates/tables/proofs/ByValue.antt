@@ -28,7 +28,7 @@ notice-at : (N f : ℕ) (x : Bench) → isBench N f ≡ true → noticeFrom N x 
 unfolding noticeFrom
 notice-at N f x e = rw e refl
 
-module _ (N R : ℕ) (t l : List (List ℕ)) where
+module _ (N : ℕ) (t l : List (List ℕ)) where
   -- a step of two benches that is answered 0 is done at their places
   at-places : (g : ℕ → ℕ → Act) (b f : ℕ) → atBenches N t l g b f .answer ≡ 0 → (isBench N f ≡ true) × (atBenches N t l g b f ≡ g (b - 1) (f - 1))
   unfolding atBenches
@@ -65,16 +65,16 @@ module _ (N R : ℕ) (t l : List (List ℕ)) where
       (λ h. rw (e, o, h) refl))
       (λ o. clash (let p : 10 ≡ 0 = sym (rw (e, o) refl) ∙ z in omega arith)))
 
-  pub arrive-by-value : (b f : ℕ) → tableStep N R t l (arrive b f) .answer ≡ 0
-      → (m : Message) × (nextOn t l (b - 1) (f - 1) ≡ Next m) × (tableStep N R t l (arrive b f) .tables ≡ stored t l (b - 1) (takeFrom N (rows places t (b - 1)) f m))
+  pub arrive-by-value : (b f : ℕ) → tableStep N t l (arrive b f) .answer ≡ 0
+      → (m : Message) × (nextOn t l (b - 1) (f - 1) ≡ Next m) × (tableStep N t l (arrive b f) .tables ≡ stored t l (b - 1) (takeFrom N (rows places t (b - 1)) f m))
   unfolding tableStep
   arrive-by-value b f z =
       let p = at-places (arriveAt t l) b f z in
       let w = takes (b - 1) (f - 1) (ap (λ (a : Act). a .answer) (sym (p .1)) ∙ z) in
       (w .0, w .1, ap (λ (a : Act). a .tables) (p .1) ∙ rw (take-at N f (rows places t (b - 1)) (w .0) (p .0)) (w .2))
 
-  pub notice-by-value : (b f : ℕ) → tableStep N R t l (notice b f) .answer ≡ 0
-      → tableStep N R t l (notice b f) .tables ≡ stored t l (b - 1) (noticeFrom N (rows places t (b - 1)) f)
+  pub notice-by-value : (b f : ℕ) → tableStep N t l (notice b f) .answer ≡ 0
+      → tableStep N t l (notice b f) .tables ≡ stored t l (b - 1) (noticeFrom N (rows places t (b - 1)) f)
   unfolding tableStep
   notice-by-value b f z =
       let p = at-places (noticeAt t l) b f z in

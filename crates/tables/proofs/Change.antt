@@ -11,14 +11,14 @@ use lib.Seq.{getD-set-same, getD-set-other, set-getD}
 use borrow.Author.Tests.{eqb-true, eqb-false}
 use Rattle.published.specs.Rounds as published
 use Rattle.common.specs.Updates.{put}
-use Rattle.published.specs.Rounds.{done, refuse}
+use Rattle.published.specs.Rounds.{Step, runFrom, newRun, Answer, done, refuse}
 use Rattle.common.proofs.Tests.{split}
 use Rattle.common.proofs.Updates.{put-ind, put-same, put-other, put-self}
 use Rattle.bench.specs.declared.Bench.{Bench}
 use Rattle.common.specs.Places.{has}
 use Rattle.kinds.specs.Sizes.{places, depth}
 use Rattle.tables.specs.Rows.{rowOf, rows, logs}
-use Rattle.tables.specs.Steps.{refused, acted, stored}
+use Rattle.tables.specs.Steps.{Act, refused, acted, stored}
 use Rattle.tables.specs.Runs.{lineOf, takenBy, benchOf, runBy, runOf}
 use Rattle.tables.specs.Sound.{Fit, Ok, Sound}
 use Rattle.tables.specs.Meets.{Links}
@@ -32,25 +32,29 @@ pub bench-path : (x y : published.Bench) → x .state ≡ y .state → x .round 
 bench-path x y p₁ p₂ p₃ p₄ p₅ p₆ p₇ p₈ =
     λ i. record { state = p₁ i; round = p₂ i; value = p₃ i; world = p₄ i; sent = p₅ i; taken = p₆ i; noticed = p₇ i; decision = p₈ i }
 
+-- what each step shows: its link, where some steps q lead to the run after it
+abbrev pub Linked : ℕ → Act → Answer → Type 0
+Linked N e a = (q : List Step) → runFrom N newRun q ≡ a .run → Links N e a
+
 -- b becomes b′: it has sent at least as much, and nothing behind OUT
 pub record Grows (b b′ : Bench) : Type 0 where
   pub more : b .sent ≤ b′ .sent
   pub still : eqb (b .silent) 1 ≡ true → (eqb (b′ .silent) 1 ≡ true) × (b .sent ≡ b′ .sent)
 
 -- what bench k of benches B with logs L can become, with its log: every step shows this of its bench
-pub record Becomes (N R : ℕ) (B : ℕ → Bench) (L : ℕ → List ℕ) (k : ℕ) (b : Bench) (log : List ℕ) : Type 0 where
+pub record Becomes (N : ℕ) (B : ℕ → Bench) (L : ℕ → List ℕ) (k : ℕ) (b : Bench) (log : List ℕ) : Type 0 where
   pub size : length log ≡ depth + depth
   pub keeps : KeepsRounds (L k) log (B k .sent)
   pub grows : Grows (B k) b
-  pub fit : Fit N R b
+  pub fit : Fit N b
   pub own : getD (b .taken) k 0 ≡ b .sent
   pub own-out : has (b .outs) k ≡ eqb (b .silent) 1
   pub line : (j : ℕ) → (j ≡ k → ⊥) → getD (b .taken) j 0 ≤ B j .sent
   pub end : (j : ℕ) → (j ≡ k → ⊥) → has (b .outs) j ≡ true → (eqb (B j .silent) 1 ≡ true) × (getD (b .taken) j 0 ≡ B j .sent)
   pub worlds : (i : ℕ) → i < b .sent → getD log (i + depth) 0 < 2 ^ N
 
-module _ (N R : ℕ) where
-  module _ (B : ℕ → Bench) (L : ℕ → List ℕ) (ok : Ok N R B L) (k : ℕ) (b : Bench) (log : List ℕ) (m : Becomes N R B L k b log) where
+module _ (N : ℕ) where
+  module _ (B : ℕ → Bench) (L : ℕ → List ℕ) (ok : Ok N B L) (k : ℕ) (b : Bench) (log : List ℕ) (m : Becomes N B L k b log) where
     -- ---- the run
 
     -- what others have taken of the log stays
@@ -94,9 +98,9 @@ module _ (N R : ℕ) where
     end-own : End b k b
     end-own o = (sym (m .own-out) ∙ o, m .own)
 
-    ok-change : Ok N R (put B k b) (put L k log)
+    ok-change : Ok N (put B k b) (put L k log)
     ok-change = record {
-      fit = λ i. put-ind (λ (y : Bench). Fit N R y) B k b i (λ e. m .fit) (λ e. ok .fit i);
+      fit = λ i. put-ind (λ (y : Bench). Fit N y) B k b i (λ e. m .fit) (λ e. ok .fit i);
       own = λ i. put-ind (λ (y : Bench). getD (y .taken) i 0 ≡ y .sent) B k b i (λ e. rw e (m .own)) (λ e. ok .own i);
       own-out = λ i. put-ind (λ (y : Bench). has (y .outs) i ≡ eqb (y .silent) 1) B k b i (λ e. rw e (m .own-out)) (λ e. ok .own-out i);
       line = λ i j. put-ind (λ (y : Bench). Line y j (put B k b j)) B k b i
@@ -113,46 +117,48 @@ module _ (N R : ℕ) where
           (λ e q h. rw (put-other L k log i e) (ok .worlds i q h));
     }
 
-  module _ (t l : List (List ℕ)) (s : Sound N R t l) where
+  module _ (t l : List (List ℕ)) (s : Sound N t l) where
     -- nothing changes
-    pub refused-links : (n : ℕ) → Links N R (refused n t l) (refuse n (runOf t l))
+    pub refused-links : (n : ℕ) → Linked N (refused n t l) (refuse n (runOf t l))
     unfolding refuse
-    refused-links n = record { number = refl; run = refl; sound = s }
+    refused-links n q led = record { number = refl; run = refl; sound = s }
 
     module _ (k : ℕ) (h : k < N) (b : Bench) where
       -- bench k is now b with this log, and stands for x
-      pub changes : (log : List ℕ) → Becomes N R (rows places t) (logs l) k b log → (x : published.Bench) → benchOf (put (logs l) k log) k b ≡ x
-          → Links N R (acted (stored t (set l k log) k b)) (done (put (runOf t l) (suc k) x))
+      pub changes : (log : List ℕ) → Becomes N (rows places t) (logs l) k b log → (x : published.Bench) → benchOf (put (logs l) k log) k b ≡ x
+          → Linked N (acted (stored t (set l k log) k b)) (done (put (runOf t l) (suc k) x))
       unfolding done runOf
-      changes log m x e =
+      changes log m x e steps led =
           let p = rows-set places t k b (omega (arith, s .benches, s .fits)) (m .fit .size) in
           let q = logs-set l k log (omega (arith, s .books, s .fits)) in
+          let run = sym (ap₂ runBy p q ∙ run-change (rows places t) (logs l) (s .ok) k b log m ∙ ap (put (runBy (rows places t) (logs l)) (suc k)) e) in
           record {
             number = refl;
-            run = sym (ap₂ runBy p q ∙ run-change (rows places t) (logs l) (s .ok) k b log m ∙ ap (put (runBy (rows places t) (logs l)) (suc k)) e);
+            run = run;
             sound = record {
               fits = s .fits;
-              deep = s .deep;
               benches = length-set t k (rowOf places b) ∙ s .benches;
               books = length-set l k log ∙ s .books;
               logs = λ i hi. split (eqb i k)
                   (λ c. rw (eqb-true i k c, getD-set-same l k log [] (omega (arith, s .books, s .fits))) (m .size))
                   (λ c. rw (getD-set-other l k i log [] (eqb-false i k c)) (s .logs i hi));
-              ok = subst (λ (P : ℕ → Bench). Ok N R P (logs (set l k log))) (sym p)
-                  (subst (λ (Q : ℕ → List ℕ). Ok N R (put (rows places t) k b) Q) (sym q) (ok-change (rows places t) (logs l) (s .ok) k b log m));
+              ok = subst (λ (P : ℕ → Bench). Ok N P (logs (set l k log))) (sym p)
+                  (subst (λ (Q : ℕ → List ℕ). Ok N (put (rows places t) k b) Q) (sym q) (ok-change (rows places t) (logs l) (s .ok) k b log m));
+              steps = steps;
+              led = led ∙ run;
             };
           }
 
       -- the same where the log stays
-      pub remains : Becomes N R (rows places t) (logs l) k b (logs l k) → (x : published.Bench) → benchOf (logs l) k b ≡ x
-          → Links N R (acted (stored t l k b)) (done (put (runOf t l) (suc k) x))
+      pub remains : Becomes N (rows places t) (logs l) k b (logs l k) → (x : published.Bench) → benchOf (logs l) k b ≡ x
+          → Linked N (acted (stored t l k b)) (done (put (runOf t l) (suc k) x))
       remains m x e =
-          subst (λ (r : List (List ℕ)). Links N R (acted (stored t r k b)) (done (put (runOf t l) (suc k) x))) (set-getD l k [])
+          subst (λ (r : List (List ℕ)). Linked N (acted (stored t r k b)) (done (put (runOf t l) (suc k) x))) (set-getD l k [])
           (changes (logs l k) m x (ap (λ (Q : ℕ → List ℕ). benchOf Q k b) (put-self (logs l) k) ∙ e))
 
       -- b has sent and taken what bench k has
-      pub idle : Fit N R b → b .sent ≡ rows places t k .sent → b .silent ≡ rows places t k .silent → b .outs ≡ rows places t k .outs → b .taken ≡ rows places t k .taken
-          → Becomes N R (rows places t) (logs l) k b (logs l k)
+      pub idle : Fit N b → b .sent ≡ rows places t k .sent → b .silent ≡ rows places t k .silent → b .outs ≡ rows places t k .outs → b .taken ≡ rows places t k .taken
+          → Becomes N (rows places t) (logs l) k b (logs l k)
       idle fit e₁ e₂ e₃ e₄ = record {
         size = s .logs k (omega (arith, s .fits));
         keeps = keeps-all (logs l k) (rows places t k .sent);

@@ -7,7 +7,7 @@ use native.Mathlib.Omega.{arith}
 use lib.Dec.{eqb, ltb}
 use lib.ListN.{replicate, length-replicate, getD-replicate, List·getD-eq-default}
 use borrow.Author.Tests.{ltb-true, ltb-false}
-use Rattle.published.specs.Rounds.{newRun, newBench}
+use Rattle.published.specs.Rounds.{runFrom, newRun, newBench}
 use Rattle.common.proofs.Tests.{split, clash}
 use Rattle.bench.specs.declared.Bench.{Bench}
 use Rattle.common.specs.Places.{has}
@@ -30,12 +30,11 @@ blank-rows = fun-ext λ k. let row : List ℕ = replicate (9 + places) 0 in spli
 none-has : (j : ℕ) {A : Type 0} → has 0 j ≡ true → A
 none-has j e = let h = has-none j in clash (cc)
 
-module _ (N R : ℕ) where
-  blank-ok : (L : ℕ → List ℕ) → Ok N R (λ k. blank places) L
+module _ (N : ℕ) where
+  blank-ok : (L : ℕ → List ℕ) → Ok N (λ k. blank places) L
   blank-ok L = record {
     fit = λ k. record {
       size = length-replicate {A = ℕ} places 0;
-      top = omega arith;
       live = λ e. (refl, refl);
       fresh = λ e. refl;
       running = λ e. absurd (omega arith);
@@ -47,16 +46,6 @@ module _ (N R : ℕ) where
     line = λ k j. rw (zeros places j) (omega arith);
     end = λ k j e. none-has j e;
     worlds = λ k i h. absurd (omega arith);
-  }
-
-  pub empty-sound : N ≤ places → R ≤ depth → Sound N R (emptyTables .benches) (emptyTables .logs)
-  empty-sound fits deep = record {
-    fits = fits;
-    deep = deep;
-    benches = unfold emptyTables in length-replicate places (replicate {A = ℕ} (9 + places) 0);
-    books = unfold emptyTables in length-replicate places (replicate {A = ℕ} (depth + depth) 0);
-    ok = subst (λ (B : ℕ → Bench). Ok N R B (logs (emptyTables .logs))) (sym blank-rows) (blank-ok (logs (emptyTables .logs)));
-    logs = λ k h. unfold emptyTables in rw (getD-replicate places k (replicate {A = ℕ} (depth + depth) 0) [] h) (length-replicate {A = ℕ} (depth + depth) 0);
   }
 
 blank-run : (L : ℕ → List ℕ) → runBy (λ k. blank places) L ≡ newRun
@@ -82,3 +71,14 @@ blank-run L = fun-ext go
 pub empty-run : runOf (emptyTables .benches) (emptyTables .logs) ≡ newRun
 unfolding runOf
 empty-run = ap (λ (B : ℕ → Bench). runBy B (logs (emptyTables .logs))) blank-rows ∙ blank-run (logs (emptyTables .logs))
+
+pub empty-sound : (N : ℕ) → N ≤ places → Sound N (emptyTables .benches) (emptyTables .logs)
+empty-sound N fits = record {
+  fits = fits;
+  benches = unfold emptyTables in length-replicate places (replicate {A = ℕ} (9 + places) 0);
+  books = unfold emptyTables in length-replicate places (replicate {A = ℕ} (depth + depth) 0);
+  ok = subst (λ (B : ℕ → Bench). Ok N B (logs (emptyTables .logs))) (sym blank-rows) (blank-ok N (logs (emptyTables .logs)));
+  logs = λ k h. unfold emptyTables in rw (getD-replicate places k (replicate {A = ℕ} (depth + depth) 0) [] h) (length-replicate {A = ℕ} (depth + depth) 0);
+  steps = [];
+  led = unfold runFrom in sym empty-run;
+}

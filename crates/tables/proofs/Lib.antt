@@ -1,5 +1,6 @@
 pub mod Rows
 pub mod Lines
+pub mod Counts
 pub mod States
 pub mod Seen
 pub mod Change
@@ -13,7 +14,6 @@ pub mod Steps
 pub mod Empty
 pub mod Meeting
 pub mod Decisions
-pub mod Pause
 pub mod Local
 pub mod ByValue
 pub mod Refusing

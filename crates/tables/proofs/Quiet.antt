@@ -17,17 +17,15 @@ use Rattle.tables.specs.Rows.{rows, logs}
 use Rattle.tables.specs.Steps.{acted, stored}
 use Rattle.tables.specs.Runs.{stateOf, takenBy, noticedBy, benchOf, runBy, runOf}
 use Rattle.tables.specs.Sound.{Fit, Sound}
-use Rattle.tables.specs.Meets.{Links}
 use Rattle.common.proofs.Sets.{joined-same, joined-other}
-use Rattle.tables.proofs.Change.{bench-path, remains, idle}
+use Rattle.tables.proofs.Change.{Linked, bench-path, remains, idle}
 
-module _ (N R : ℕ) where
+module _ (N : ℕ) where
   -- in state 4 or above a bench takes no part any more
-  fit-gone : (b : Bench) (st : ℕ) → 4 ≤ st → Fit N R b → Fit N R (inState st b)
+  fit-gone : (b : Bench) (st : ℕ) → 4 ≤ st → Fit N b → Fit N (inState st b)
   unfolding inState
   fit-gone b st h f = record {
     size = f .size;
-    top = f .top;
     live = λ e. absurd (omega arith);
     fresh = λ e. absurd (omega arith);
     running = λ e. absurd (omega arith);
@@ -35,10 +33,10 @@ module _ (N R : ℕ) where
     abstained = λ e. absurd (omega arith);
   }
 
-  fit-notice : (b : Bench) (j : ℕ) → Fit N R b → Fit N R (noticeOf b j)
+  fit-notice : (b : Bench) (j : ℕ) → Fit N b → Fit N (noticeOf b j)
   unfolding noticeOf
   fit-notice b j f =
-      record { size = f .size; top = f .top; live = f .live; fresh = f .fresh; running = f .running; decided = f .decided; abstained = f .abstained }
+      record { size = f .size; live = f .live; fresh = f .fresh; running = f .running; decided = f .decided; abstained = f .abstained }
 
   noticed-put : (a j : ℕ) → noticedBy (bitOr a (2 ^ j)) ≡ put (noticedBy a) (suc j) true
   unfolding noticedBy
@@ -50,7 +48,7 @@ module _ (N R : ℕ) where
           (λ e. let p : i ≡ j = omega arith in rw p (joined-same a j))
           (λ e. joined-other a j i (λ p. e (omega arith)))
 
-  module _ (t l : List (List ℕ)) (s : Sound N R t l) (k : ℕ) (h : k < N) where
+  module _ (t l : List (List ℕ)) (s : Sound N t l) (k : ℕ) (h : k < N) where
     abbrev b : Bench
     b = rows places t k
 
@@ -63,14 +61,14 @@ module _ (N R : ℕ) where
         go (suc j) = rw (p, q) refl
 
     pub goes-quietly : (st : ℕ) → 4 ≤ st
-        → Links N R (acted (stored t l k (inState st b))) (done (put (runOf t l) (suc k) (published.inState (stateOf st) (runOf t l (suc k)))))
+        → Linked N (acted (stored t l k (inState st b))) (done (put (runOf t l) (suc k) (published.inState (stateOf st) (runOf t l (suc k)))))
     unfolding inState published.inState benchOf runOf runBy
     goes-quietly st hs =
-        remains N R t l s k h (inState st b) (idle N R t l s k h (inState st b) (fit-gone b st hs (s .ok .fit k)) refl refl refl refl) _
+        remains N t l s k h (inState st b) (idle N t l s k h (inState st b) (fit-gone b st hs (s .ok .fit k)) refl refl refl refl) _
         (bench-path _ _ refl refl refl refl refl (taken-same (inState st b) refl refl) refl refl)
 
-    pub notices : (j : ℕ) → Links N R (acted (stored t l k (noticeOf b j))) (done (put (runOf t l) (suc k) (noticing (suc j) (runOf t l (suc k)))))
+    pub notices : (j : ℕ) → Linked N (acted (stored t l k (noticeOf b j))) (done (put (runOf t l) (suc k) (noticing (suc j) (runOf t l (suc k)))))
     unfolding noticeOf noticing benchOf runOf runBy
     notices j =
-        remains N R t l s k h (noticeOf b j) (idle N R t l s k h (noticeOf b j) (fit-notice b j (s .ok .fit k)) refl refl refl refl) _
+        remains N t l s k h (noticeOf b j) (idle N t l s k h (noticeOf b j) (fit-notice b j (s .ok .fit k)) refl refl refl refl) _
         (bench-path _ _ refl refl refl refl refl (taken-same (noticeOf b j) refl refl) (noticed-put (b .noticed) j) refl)

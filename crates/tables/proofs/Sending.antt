@@ -22,12 +22,11 @@ use Rattle.tables.specs.Lines.{message}
 use Rattle.tables.specs.Steps.{acted, stored, putAt, sentOf}
 use Rattle.tables.specs.Runs.{messagesTo, lineOf, stateOf, takenBy, decisionOf, benchOf, runBy, runOf}
 use Rattle.tables.specs.Sound.{Sound}
-use Rattle.tables.specs.Meets.{Links}
 use Rattle.tables.specs.Local.{KeepsRounds}
 use Rattle.common.proofs.Sets.{joined-same, joined-other}
 use Rattle.tables.proofs.Rows.{put-word}
 use Rattle.tables.proofs.Lines.{keeps-all, rounds-kept}
-use Rattle.tables.proofs.Change.{bench-path, Becomes, changes, remains}
+use Rattle.tables.proofs.Change.{Linked, bench-path, Becomes, changes, remains}
 
 -- ---- a log with one round more
 
@@ -64,7 +63,7 @@ withState st chose b = record { state = st; round = b .round; value = b .value; 
 unfoldable pub withDecision : published.State → published.Decision → published.Bench → published.Bench
 withDecision st d x = record { state = st; round = x .round; value = x .value; world = x .world; sent = x .sent; taken = x .taken; noticed = x .noticed; decision = d }
 
-module _ (N R : ℕ) (t l : List (List ℕ)) (s : Sound N R t l) (k : ℕ) (h : k < N) where
+module _ (N : ℕ) (t l : List (List ℕ)) (s : Sound N t l) (k : ℕ) (h : k < N) where
   abbrev b : Bench
   b = rows places t k
 
@@ -84,7 +83,7 @@ module _ (N R : ℕ) (t l : List (List ℕ)) (s : Sound N R t l) (k : ℕ) (h : 
     abbrev parted : Bench
     parted = sentOut (takeOf (withState st chose b) k Out)
 
-    parted-becomes : Becomes N R (rows places t) (logs l) k parted (logs l k)
+    parted-becomes : Becomes N (rows places t) (logs l) k parted (logs l k)
     unfolding sentOut takeOf outOf withState
     parted-becomes = record {
       size = s .logs k here;
@@ -92,7 +91,6 @@ module _ (N R : ℕ) (t l : List (List ℕ)) (s : Sound N R t l) (k : ℕ) (h : 
       grows = record { more = omega arith; still = λ g. clash (cc) };
       fit = record {
         size = size;
-        top = s .ok .fit k .top;
         live = λ p. absurd (omega arith);
         fresh = λ p. absurd (omega arith);
         running = λ p. absurd (omega arith);
@@ -106,10 +104,10 @@ module _ (N R : ℕ) (t l : List (List ℕ)) (s : Sound N R t l) (k : ℕ) (h : 
       worlds = λ i hi. s .ok .worlds k i hi;
     }
 
-    pub sends-out : Links N R (acted (sentOf t l k (withState st chose b) Out))
+    pub sends-out : Linked N (acted (sentOf t l k (withState st chose b) Out))
         (done (put (runOf t l) (suc k) (sending published.Out (withDecision (stateOf st) (decisionOf chose (b .value .0)) x))))
     unfolding sentOf sentOut takeOf outOf withState withDecision sending runOf runBy benchOf takenBy lineOf
-    sends-out = remains N R t l s k h parted parted-becomes _ (bench-path _ _ refl refl refl refl (rw (quiet, append-nil) refl) (fun-ext same) refl refl)
+    sends-out = remains N t l s k h parted parted-becomes _ (bench-path _ _ refl refl refl refl (rw (quiet, append-nil) refl) (fun-ext same) refl refl)
       where
         same : (f : ℕ) → takenBy (logs l) k parted f ≡ takenBy (logs l) k b f
         same zero = refl
@@ -117,13 +115,9 @@ module _ (N R : ℕ) (t l : List (List ℕ)) (s : Sound N R t l) (k : ℕ) (h : 
 
   -- ---- the next round's message
 
-  module _ (v w : ℕ) (hw : w < 2 ^ N) (live : b .state ≤ 1) (room : b .sent < R) where
+  module _ (v w : ℕ) (hw : w < 2 ^ N) (live : b .state ≤ 1) (room : b .sent < depth) where
     abbrev q : ℕ
     q = b .sent
-
-    -- there is room in the log
-    left : q < depth
-    left = omega (arith, s .deep)
 
     abbrev entered : Bench
     entered = sentTo (suc q) (takenOf (inRound (suc q) (record { 0 = v }) w b) k (suc q))
@@ -131,15 +125,14 @@ module _ (N R : ℕ) (t l : List (List ℕ)) (s : Sound N R t l) (k : ℕ) (h : 
     abbrev log : List ℕ
     log = set (set (getD l k []) q v) (q + depth) w
 
-    entered-becomes : Becomes N R (rows places t) (logs l) k entered log
+    entered-becomes : Becomes N (rows places t) (logs l) k entered log
     unfolding sentTo takenOf inRound
     entered-becomes = record {
-      size = longer-size (getD l k []) q v w (s .logs k here) left;
-      keeps = longer-keeps (getD l k []) q v w (s .logs k here) left;
+      size = longer-size (getD l k []) q v w (s .logs k here) room;
+      keeps = longer-keeps (getD l k []) q v w (s .logs k here) room;
       grows = record { more = omega arith; still = λ g. let e = s .ok .fit k .live live .0 in clash (cc) };
       fit = record {
         size = length-set (b .taken) k (suc q) ∙ size;
-        top = room;
         live = λ e. s .ok .fit k .live live;
         fresh = λ e. absurd (omega arith);
         running = λ e. (refl, omega arith, hw);
@@ -151,8 +144,8 @@ module _ (N R : ℕ) (t l : List (List ℕ)) (s : Sound N R t l) (k : ℕ) (h : 
       line = λ j n. rw (getD-set-other (b .taken) k j (suc q) 0 n) (s .ok .line k j);
       end = λ j n o. let e = s .ok .end k j o in (e .0, getD-set-other (b .taken) k j (suc q) 0 n ∙ e .1);
       worlds = λ i hi. split (eqb i q)
-          (λ c. rw (eqb-true i q c, longer-world (getD l k []) q v w (s .logs k here) left) hw)
-          (λ c. let c′ = eqb-false i q c in rw (longer-keeps (getD l k []) q v w (s .logs k here) left i (omega arith) .1) (s .ok .worlds k i (omega arith)));
+          (λ c. rw (eqb-true i q c, longer-world (getD l k []) q v w (s .logs k here) room) hw)
+          (λ c. let c′ = eqb-false i q c in rw (longer-keeps (getD l k []) q v w (s .logs k here) room i (omega arith) .1) (s .ok .worlds k i (omega arith)));
     }
 
     taken-same : takenBy (put (logs l) k log) k entered ≡ takenBy (logs l) k b
@@ -169,15 +162,15 @@ module _ (N R : ℕ) (t l : List (List ℕ)) (s : Sound N R t l) (k : ℕ) (h : 
     unfolding benchOf sentTo takenOf inRound entering sending published.inRound stateOf lineOf decisionOf
     entered-is = bench-path _ _ refl refl refl refl
         (rw (put-same (logs l) k log, s .ok .fit k .live live .0, append-nil (messagesTo log (suc q)), append-nil (messagesTo (getD l k []) q))
-        (longer-rounds (getD l k []) q v w (s .logs k here) left))
+        (longer-rounds (getD l k []) q v w (s .logs k here) room))
         taken-same refl (rw (s .ok .fit k .live live .1) refl)
 
-    enters : Links N R (acted (stored t (set l k log) k entered)) (done (put (runOf t l) (suc k) (entering (suc q) v w x)))
+    enters : Linked N (acted (stored t (set l k log) k entered)) (done (put (runOf t l) (suc k) (entering (suc q) v w x)))
     unfolding runOf runBy
-    enters = changes N R t l s k h entered log entered-becomes (entering (suc q) v w (benchOf (logs l) k b)) entered-is
+    enters = changes N t l s k h entered log entered-becomes (entering (suc q) v w (benchOf (logs l) k b)) entered-is
 
     pub sends-round : (r : ℕ) → r ≡ suc q
-        → Links N R (acted (sentOf t l k (inRound r (record { 0 = v }) w b) (message r v w))) (done (put (runOf t l) (suc k) (entering r v w x)))
+        → Linked N (acted (sentOf t l k (inRound r (record { 0 = v }) w b) (message r v w))) (done (put (runOf t l) (suc k) (entering r v w x)))
     unfolding sentOf takeOf
     sends-round r e =
         let p : suc q - 1 ≡ q = omega arith in

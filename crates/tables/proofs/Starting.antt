@@ -22,8 +22,8 @@ use Rattle.tables.proofs.Lines.{line-find}
 use Rattle.tables.proofs.States.{by-state, gone-is}
 
 -- a bench that has started and has neither left nor failed is running or decided
-active : (N R : ℕ) (b : Bench) → Fit N R b → (not (ltb 0 (b .sent)) || ltb 3 (b .state)) ≡ not (eqb (b .state) 1 || eqb (b .state) 2)
-active N R b f = by-state (λ n. b .state ≡ n → (not (ltb 0 (b .sent)) || ltb 3 n) ≡ not (eqb n 1 || eqb n 2))
+active : (N : ℕ) (b : Bench) → Fit N b → (not (ltb 0 (b .sent)) || ltb 3 (b .state)) ≡ not (eqb (b .state) 1 || eqb (b .state) 2)
+active N b f = by-state (λ n. b .state ≡ n → (not (ltb 0 (b .sent)) || ltb 3 n) ≡ not (eqb n 1 || eqb n 2))
     (λ e. rw (f .fresh e) refl)
     (λ e. rw (lt-ltb 0 (b .sent) (f .running e .1)) refl)
     (λ e. rw (lt-ltb 0 (b .sent) (f .decided e)) refl)
@@ -32,7 +32,7 @@ active N R b f = by-state (λ n. b .state ≡ n → (not (ltb 0 (b .sent)) || lt
     (λ n e. let m = suc (suc (suc (suc (suc n)))) in rw (ne-eqb m 1 (omega arith), ne-eqb m 2 (omega arith), lt-ltb 3 m (omega arith)) (or-true (not (ltb 0 (b .sent)))))
     (b .state) refl
 
-module _ (N R : ℕ) (t l : List (List ℕ)) where
+module _ (N : ℕ) (t l : List (List ℕ)) where
   -- the round 1 message of bench j + 1
   first-message : (j : ℕ) → find 1 (runOf t l (suc j) .sent) ≡ cond (ltb 0 (rows places t j .sent)) (found (getD (logs l j) 0 0) (getD (logs l j) depth 0)) absent
   unfolding runOf runBy benchOf
@@ -49,10 +49,10 @@ module _ (N R : ℕ) (t l : List (List ℕ)) where
   unfolding runOf runBy benchOf
   left-is j = gone-is (rows places t j .state)
 
-  pub lacks-is : Sound N R t l → (w : ℕ) → hasAll N (runOf t l) w ≡ not (lacksOne N t w)
+  pub lacks-is : Sound N t l → (w : ℕ) → hasAll N (runOf t l) w ≡ not (lacksOne N t w)
   unfolding hasAll lacksOne lacksAt ofRow
   lacks-is s w = every-some (lacksAt t w) (λ i. not (isFound (find 1 (runOf t l i .sent))) || isGone (runOf t l i .state) || member i w) N
-      (λ j h. rw (started-is j, left-is j, member-has j w, active N R (rows places t j) (s .ok .fit j)) (not-and (eqb (rows places t j .state) 1 || eqb (rows places t j .state) 2) (has w j)))
+      (λ j h. rw (started-is j, left-is j, member-has j w, active N (rows places t j) (s .ok .fit j)) (not-and (eqb (rows places t j .state) 1 || eqb (rows places t j .state) 2) (has w j)))
     where
       not-and : (a m : Bool) → (not a || m) ≡ not (a && not m)
       not-and true true = refl

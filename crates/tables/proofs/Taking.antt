@@ -26,10 +26,10 @@ use Rattle.tables.specs.Lines.{waitingOf}
 use Rattle.tables.specs.Steps.{acted, stored, takeNext, nextOn}
 use Rattle.tables.specs.Runs.{messagesTo, lineOf, takenBy, benchOf, runBy, runOf}
 use Rattle.tables.specs.Sound.{Sound}
-use Rattle.tables.specs.Meets.{Links}
 use Rattle.common.proofs.Sets.{joined-same, joined-other}
 use Rattle.tables.proofs.Lines.{at, keeps-all, line-length, drop-rounds, ahead}
-use Rattle.tables.proofs.Change.{bench-path, Becomes, remains, refused-links}
+use Rattle.tables.proofs.Counts.{sent-fits}
+use Rattle.tables.proofs.Change.{Linked, bench-path, Becomes, remains, refused-links}
 
 -- more is taken of the line j: what is taken changes at that line alone
 taken-put : (L : ℕ → List ℕ) (k j : ℕ) (b b′ : Bench) → (j ≡ k → ⊥)
@@ -45,7 +45,7 @@ taken-put L k j b b′ ne f m e = fun-ext go
         (λ p. let p′ : i ≡ j = omega arith in rw (p′, ne-eqb j k ne) e)
         (λ p. let p′ : (i ≡ j → ⊥) = λ (x : i ≡ j). p (omega arith) in rw (f i p′ .0, f i p′ .1) refl)
 
-module _ (N R : ℕ) (t l : List (List ℕ)) (s : Sound N R t l) (k j : ℕ) (hk : k < N) (hj : j < N) (ne : j ≡ k → ⊥) where
+module _ (N : ℕ) (t l : List (List ℕ)) (s : Sound N t l) (k j : ℕ) (hk : k < N) (hj : j < N) (ne : j ≡ k → ⊥) where
   -- the bench, the sender and its log, and how many of its round messages the bench has taken
   abbrev b : Bench
   b = rows places t k
@@ -67,7 +67,7 @@ module _ (N R : ℕ) (t l : List (List ℕ)) (s : Sound N R t l) (k j : ℕ) (hk
 
   -- ---- a round message is taken
 
-  round-becomes : n < c .sent → has (b .outs) j ≡ false → Becomes N R (rows places t) (logs l) k (takenOf b j (suc n)) (logs l k)
+  round-becomes : n < c .sent → has (b .outs) j ≡ false → Becomes N (rows places t) (logs l) k (takenOf b j (suc n)) (logs l k)
   unfolding takenOf
   round-becomes h o = let f = s .ok .fit k in record {
     size = s .logs k (omega (arith, s .fits));
@@ -75,7 +75,6 @@ module _ (N R : ℕ) (t l : List (List ℕ)) (s : Sound N R t l) (k j : ℕ) (hk
     grows = record { more = omega arith; still = λ g. (g, refl) };
     fit = record {
       size = length-set (b .taken) j (suc n) ∙ size;
-      top = f .top;
       live = f .live;
       fresh = f .fresh;
       running = f .running;
@@ -99,16 +98,16 @@ module _ (N R : ℕ) (t l : List (List ℕ)) (s : Sound N R t l) (k j : ℕ) (hk
   longer-round o = rw (getD-set-same (b .taken) j (suc n) 0 (omega (arith, size, s .fits)), o, append-nil (messagesTo log (suc n)), append-nil (messagesTo log n)) refl
 
   takes-round : n < c .sent → has (b .outs) j ≡ false
-      → Links N R (acted (stored t l k (takenOf b j (suc n)))) (done (put run (suc k) (taking (suc j) (at log n) (run (suc k)))))
+      → Linked N (acted (stored t l k (takenOf b j (suc n)))) (done (put run (suc k) (taking (suc j) (at log n) (run (suc k)))))
   unfolding takenOf taking benchOf runOf runBy
-  takes-round h o = remains N R t l s k hk (takenOf b j (suc n)) (round-becomes h o) _
+  takes-round h o = remains N t l s k hk (takenOf b j (suc n)) (round-becomes h o) _
       (bench-path _ _ refl refl refl refl refl
       (taken-put (logs l) k j b (takenOf b j (suc n)) ne (λ i p. (getD-set-other (b .taken) j i (suc n) 0 p, refl)) (at log n) (longer-round o))
       refl refl)
 
   -- ---- OUT is taken
 
-  out-becomes : n ≡ c .sent → eqb (c .silent) 1 ≡ true → Becomes N R (rows places t) (logs l) k (outOf b j) (logs l k)
+  out-becomes : n ≡ c .sent → eqb (c .silent) 1 ≡ true → Becomes N (rows places t) (logs l) k (outOf b j) (logs l k)
   unfolding outOf
   out-becomes h g = let f = s .ok .fit k in record {
     size = s .logs k (omega (arith, s .fits));
@@ -116,7 +115,6 @@ module _ (N R : ℕ) (t l : List (List ℕ)) (s : Sound N R t l) (k j : ℕ) (hk
     grows = record { more = omega arith; still = λ e. (e, refl) };
     fit = record {
       size = f .size;
-      top = f .top;
       live = f .live;
       fresh = f .fresh;
       running = f .running;
@@ -137,9 +135,9 @@ module _ (N R : ℕ) (t l : List (List ℕ)) (s : Sound N R t l) (k j : ℕ) (hk
   longer-out o = rw (joined-same (b .outs) j, o, append-nil) refl
 
   takes-out : n ≡ c .sent → eqb (c .silent) 1 ≡ true → has (b .outs) j ≡ false
-      → Links N R (acted (stored t l k (outOf b j))) (done (put run (suc k) (taking (suc j) Out (run (suc k)))))
+      → Linked N (acted (stored t l k (outOf b j))) (done (put run (suc k) (taking (suc j) Out (run (suc k)))))
   unfolding outOf taking benchOf runOf runBy
-  takes-out h g o = remains N R t l s k hk (outOf b j) (out-becomes h g) _
+  takes-out h g o = remains N t l s k hk (outOf b j) (out-becomes h g) _
       (bench-path _ _ refl refl refl refl refl (taken-put (logs l) k j b (outOf b j) ne (λ i p. (refl, joined-other (b .outs) j i p)) Out (longer-out o)) refl refl)
 
   -- ---- what waits on the line
@@ -169,18 +167,18 @@ module _ (N R : ℕ) (t l : List (List ℕ)) (s : Sound N R t l) (k j : ℕ) (hk
   rest-none q g o = rw (o, g, line-length log n, ← q) (drop-rounds log n [])
 
   -- check 8 and what follows it
-  pub takes-next : Links N R (takeNext t l k j (nextOn t l k j))
+  pub takes-next : Linked N (takeNext t l k j (nextOn t l k j))
       (judge (λ m. published.refuse m run) (needs 8 (published.some (waiting run (suc k) (suc j))) ∷ [])
       (done (put run (suc k) (takingFirst (suc j) (waiting run (suc k) (suc j)) (run (suc k))))))
   unfolding nextOn waitingOf takeNext takeOf takingFirst judge published.some
   takes-next = split (ltb n (c .sent))
       (λ e. let h = ltb-true n (c .sent) e in split (has (b .outs) j)
       (λ o. absurd (omega (arith, s .ok .end k j o .1)))
-      (λ o. let w = rest-round h o in rw (e, lt-ltb n depth (omega (arith, s .ok .fit j .top, s .deep)), rest-is ∙ w .1, add-one) (takes-round h o)))
+      (λ o. let w = rest-round h o in rw (e, lt-ltb n depth (omega (arith, sent-fits N t l s j)), rest-is ∙ w .1, add-one) (takes-round h o)))
       (λ e. let h = ltb-false n (c .sent) e in let q : n ≡ c .sent = omega (arith, s .ok .line k j) in split (eqb (c .silent) 1)
       (λ g. split (has (b .outs) j)
-      (λ o. rw (e, g, o, rest-is ∙ rest-all q g o) (refused-links N R t l s 8))
+      (λ o. rw (e, g, o, rest-is ∙ rest-all q g o) (refused-links N t l s 8))
       (λ o. rw (e, g, o, rest-is ∙ rest-out q g o) (takes-out q g o)))
       (λ g. split (has (b .outs) j)
       (λ o. let x = s .ok .end k j o .0 in clash (cc))
-      (λ o. rw (e, g, rest-is ∙ rest-none q g o) (refused-links N R t l s 8))))
+      (λ o. rw (e, g, rest-is ∙ rest-none q g o) (refused-links N t l s 8))))

@@ -1,21 +1,22 @@
--- What holds of two tables that steps have made from the empty ones, for N benches and R rounds. The first table is read as benches by
--- place, the second as logs by place; rows past the last read as blank benches, so every statement is for all places.
+-- What holds of two tables that steps have made from the empty ones, for N benches. The first table is read as benches by place, the second
+-- as logs by place; rows past the last read as blank benches, so every statement is for all places.
 use mathlib.Core.Path.{_≡_}
 use mathlib.Core.Bool.{true, false}
 use mathlib.Core.List.{List, []}
 use Prim.Native.Nat.{ℕ, _+_, _^_, _≤_, _<_}
 use lib.Dec.{eqb}
 use lib.ListN.{getD, length}
+use Rattle.published.specs.Rounds.{Step, runFrom, newRun}
 use Rattle.kinds.specs.Sizes.{places, depth}
 use Rattle.bench.specs.declared.Bench.{Bench}
 use Rattle.common.specs.Places.{has}
 use Rattle.tables.specs.Rows.{rows, logs}
+use Rattle.tables.specs.Runs.{runOf}
 
 -- one bench by itself
-pub record Fit (N R : ℕ) (b : Bench) : Type 0 where
-  -- it counts the messages of each place, and has sent at most R of its own
+pub record Fit (N : ℕ) (b : Bench) : Type 0 where
+  -- it counts the messages of each place
   pub size : length (b .taken) ≡ places
-  pub top : b .sent ≤ R
   -- fresh or running: it has neither sent OUT nor decided
   pub live : b .state ≤ 1 → (eqb (b .silent) 1 ≡ false) × (eqb (b .chose) 1 ≡ false)
   -- fresh: it has sent nothing
@@ -28,8 +29,8 @@ pub record Fit (N R : ℕ) (b : Bench) : Type 0 where
   pub abstained : b .state ≡ 3 → b .sent ≡ 0
 
 -- benches and their logs together
-pub record Ok (N R : ℕ) (B : ℕ → Bench) (L : ℕ → List ℕ) : Type 0 where
-  pub fit : (k : ℕ) → Fit N R (B k)
+pub record Ok (N : ℕ) (B : ℕ → Bench) (L : ℕ → List ℕ) : Type 0 where
+  pub fit : (k : ℕ) → Fit N (B k)
   -- a bench has taken its own messages
   pub own : (k : ℕ) → getD (B k .taken) k 0 ≡ B k .sent
   pub own-out : (k : ℕ) → has (B k .outs) k ≡ eqb (B k .silent) 1
@@ -39,11 +40,13 @@ pub record Ok (N R : ℕ) (B : ℕ → Bench) (L : ℕ → List ℕ) : Type 0 wh
   -- a world that was sent names no bench above N
   pub worlds : (k i : ℕ) → i < B k .sent → getD (L k) (i + depth) 0 < 2 ^ N
 
-pub record Sound (N R : ℕ) (t l : List (List ℕ)) : Type 0 where
-  -- the tables have room for N benches and R rounds
+pub record Sound (N : ℕ) (t l : List (List ℕ)) : Type 0 where
+  -- the tables have room for N benches
   pub fits : N ≤ places
-  pub deep : R ≤ depth
   pub benches : length t ≡ places
   pub books : length l ≡ places
-  pub ok : Ok N R (rows places t) (logs l)
+  pub ok : Ok N (rows places t) (logs l)
   pub logs : (k : ℕ) → k < places → length (getD l k []) ≡ depth + depth
+  -- some steps lead to the run that they stand for: so no round is sent for which a log has no room
+  pub steps : List Step
+  pub led : runFrom N newRun steps ≡ runOf t l

@@ -1,5 +1,5 @@
--- The seven steps on the two tables, for N benches and R rounds: the answer and both tables after, for all tables that can be handed in.
--- Whatever N and R are, a table has `places` rows and a log has room for `depth` rounds.
+-- The seven steps on the two tables, for N benches: the answer and both tables after, for all tables that can be handed in.
+-- Whatever N is, a table has `places` rows and a log has room for `depth` rounds.
 use mathlib.Core.Path.{_≡_}
 use mathlib.Core.Bool.{Bool, cond, not, _&&_, _||_}
 use Prim.Native.Nat.{ℕ, _+_, _-_, _^_}
@@ -104,8 +104,8 @@ turnBy t l k b (Refused n) = refused n t l
 unfoldable pub turnOn : List (List ℕ) → List (List ℕ) → ℕ → Turned → Act
 turnOn t l k r = turnBy t l k (r .bench) (r .answer)
 
-unfoldable pub turnAt : ℕ → ℕ → List (List ℕ) → List (List ℕ) → ℕ → Act
-turnAt N R t l k = turnOn t l k (turnOf N R (rows places t k) (heardOf N l (rows places t k)))
+unfoldable pub turnAt : ℕ → List (List ℕ) → List (List ℕ) → ℕ → Act
+turnAt N t l k = turnOn t l k (turnOf N (rows places t k) (heardOf N l (rows places t k)))
 
 unfoldable pub takeNext : List (List ℕ) → List (List ℕ) → ℕ → ℕ → Waiting → Act
 takeNext t l k j (Next m) = acted (stored t l k (takeOf (rows places t k) j m))
@@ -137,24 +137,24 @@ atBench N t l f b = cond (isBench N b) (f (b - 1)) (refused 1 t l)
 unfoldable pub atBenches : ℕ → List (List ℕ) → List (List ℕ) → (ℕ → ℕ → Act) → ℕ → ℕ → Act
 atBenches N t l g b f = cond (isBench N b && isBench N f) (cond (eqb b f) (refused 2 t l) (g (b - 1) (f - 1))) (refused 1 t l)
 
-unfoldable pub tableStep : ℕ → ℕ → List (List ℕ) → List (List ℕ) → Step → Act
-tableStep N R t l (start b v w) = atBench N t l (startAt N t l v w) b
-tableStep N R t l (abstain b) = atBench N t l (abstainAt t l) b
-tableStep N R t l (leave b) = atBench N t l (leaveAt t l) b
-tableStep N R t l (fail b) = atBench N t l (failAt t l) b
-tableStep N R t l (turn b) = atBench N t l (turnAt N R t l) b
-tableStep N R t l (arrive b f) = atBenches N t l (arriveAt t l) b f
-tableStep N R t l (notice b f) = atBenches N t l (noticeAt t l) b f
+unfoldable pub tableStep : ℕ → List (List ℕ) → List (List ℕ) → Step → Act
+tableStep N t l (start b v w) = atBench N t l (startAt N t l v w) b
+tableStep N t l (abstain b) = atBench N t l (abstainAt t l) b
+tableStep N t l (leave b) = atBench N t l (leaveAt t l) b
+tableStep N t l (fail b) = atBench N t l (failAt t l) b
+tableStep N t l (turn b) = atBench N t l (turnAt N t l) b
+tableStep N t l (arrive b f) = atBenches N t l (arriveAt t l) b f
+tableStep N t l (notice b f) = atBenches N t l (noticeAt t l) b f
 
 -- ---- lists of steps
 
-unfoldable pub tablesFrom : ℕ → ℕ → Tables → List Step → Tables
-tablesFrom N R e [] = e
-tablesFrom N R e (a ∷ l) = tablesFrom N R (tableStep N R (e .benches) (e .logs) a .tables) l
+unfoldable pub tablesFrom : ℕ → Tables → List Step → Tables
+tablesFrom N e [] = e
+tablesFrom N e (a ∷ l) = tablesFrom N (tableStep N (e .benches) (e .logs) a .tables) l
 
-unfoldable pub tableAnswers : ℕ → ℕ → Tables → List Step → List ℕ
-tableAnswers N R e [] = []
-tableAnswers N R e (a ∷ l) = tableStep N R (e .benches) (e .logs) a .answer ∷ tableAnswers N R (tableStep N R (e .benches) (e .logs) a .tables) l
+unfoldable pub tableAnswers : ℕ → Tables → List Step → List ℕ
+tableAnswers N e [] = []
+tableAnswers N e (a ∷ l) = tableStep N (e .benches) (e .logs) a .answer ∷ tableAnswers N (tableStep N (e .benches) (e .logs) a .tables) l
 
 unfoldable pub emptyTables : Tables
 emptyTables = record { benches = replicate places (replicate (9 + places) 0); logs = replicate places (replicate (depth + depth) 0) }

@@ -1,5 +1,5 @@
 -- `Bench::turn`: a law for each way.
-use Rattle.bench.proofs.Answers.{turn-idle, turn-awaits, turn-decides, turn-last, turn-goes}
+use Rattle.bench.proofs.Answers.{turn-idle, turn-awaits, turn-decides, turn-goes}
 use borrow.Author.Needs.{needs}
 use Rattle.bench.proofs.Bench.turn.Statement.{statement}
 use Rattle.bench.proofs.Bench.turn.Tie as tie
@@ -28,20 +28,11 @@ concluded-requires c κs = search needs
 returns-3 : tie.Need-returns-3
 returns-3 c = search turn-decides
 
-rounds-of-requires : tie.Need-rounds-of-requires
-rounds-of-requires c κs = search needs
-
-refused-requires-3 : tie.Need-refused-requires-3
-refused-requires-3 c κs = search needs
-
-returns-4 : tie.Need-returns-4
-returns-4 c = search turn-last
-
 go-on-requires : tie.Need-go-on-requires
 go-on-requires c κs = search needs
 
-returns-5 : tie.Need-returns-5
-returns-5 c = search turn-goes
+returns-4 : tie.Need-returns-4
+returns-4 c = search turn-goes
 
 pub turn-spec : {M : Type 1} → statement M
 turn-spec =
@@ -55,8 +46,5 @@ turn-spec =
     forbids-requires
     concluded-requires
     returns-3
-    rounds-of-requires
-    refused-requires-3
-    returns-4
     go-on-requires
-    returns-5)
+    returns-4)

@@ -8,7 +8,7 @@ state-at-requires : tie.Need-state-at-requires
 state-at-requires c κs = search needs
 
 returns : tie.Need-returns
-returns c = turn-not-running _ _ _ _ _ (c .before .state-at .ensures) (c .if1 .taken)
+returns c = turn-not-running _ _ _ _ (c .before .state-at .ensures) (c .if1 .taken)
 
 whole-turn-at-requires : tie.Need-whole-turn-at-requires
 whole-turn-at-requires c κs = search needs
