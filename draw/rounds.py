@@ -12,7 +12,7 @@ import reading
 from reading import BENCHES
 
 VALUE_MAX = 65535
-ROUND_MAX = 6 * BENCHES  # no higher round is ever sent
+ROUND_MAX = 6 * len(BENCHES)  # no higher round is ever sent
 OUT = 0  # stands where a round message has its round
 GONE = ("left", "failed")
 TAKING = ("fresh", "running")  # the states in which a bench takes messages and notices

@@ -1,11 +1,11 @@
 -- What a step answers, by its checks: the number of the first that fails, or 0 and the run after. From it turn's number by cases, when an arrival and
 -- a notice are done, and that 4 cannot be for a value up to 65,535. Assumes nothing.
-use mathlib.Core.Path.{_≡_, refl, sym, ap, _∙_}
-use Prim.Native.Nat.{ℕ, suc, _≤_}
-use mathlib.Core.Bool.{Bool, true, false, not, _&&_, _||_, true≢false, or-true}
+use mathlib.Core.Path.{_≡_, ap}
+use Prim.Native.Nat.{ℕ, _≤_}
+use mathlib.Core.Bool.{true, false, not, _&&_}
 use lib.Dec.{eqb}
 use borrow.Author.Tests.{le-leb, ne-eqb}
-use Rattle.published.specs.Rounds.{Run, running, isRunning, isFailed, waiting, some, decides, settled, start, turn, arrive, notice, Step, checks, after, Answer, refuse, done, step}
+use Rattle.published.specs.Rounds.{Run, running, isRunning, isFailed, waiting, some, settled, start, turn, arrive, notice, Step, checks, after, Answer, refuse, done, step}
 use Rattle.common.specs.Benches.{In, isBench}
 use Rattle.common.specs.Checks.{Holds, nothing, also, Fails, here, later}
 use Rattle.common.proofs.Tests.{split, clash}

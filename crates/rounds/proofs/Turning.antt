@@ -1,11 +1,8 @@
 -- What a turn sends has room in the log, and one law for each way through a turn over the tables. Assumes nothing.
 use mathlib.Core.Path.{_≡_, refl, sym, ap, _∙_, subst}
 use mathlib.Core.List.{List}
-use Prim.Native.Nat.{ℕ, _≤_}
-use native.Mathlib.Omega.{arith}
-use lib.Dec.{ltb}
-use borrow.Author.Tests.{ltb-true, ne-eqb}
-use Rattle.common.proofs.Tests.{split}
+use Prim.Native.Nat.{ℕ}
+use borrow.Author.Tests.{ne-eqb}
 use Rattle.kinds.specs.declared.SlotNo.{SlotNo}
 use Rattle.kinds.specs.declared.Message.{Message}
 use Rattle.bench.specs.declared.Bench.{Bench}
@@ -16,7 +13,7 @@ use Rattle.bench.specs.declared.Answer.the-variants.{Decided, Went, Refused}
 use Rattle.bench.specs.Changes.{inRound, choosing}
 use Rattle.bench.specs.Turns.{goOnOf, turnOf}
 use Rattle.bench.proofs.Answers.{next-fits, turn-ind}
-use Rattle.kinds.specs.Sizes.{places, depth}
+use Rattle.kinds.specs.Sizes.{places}
 use Rattle.tables.specs.Rows.{rows}
 use Rattle.tables.specs.Lines.{heardOf}
 use Rattle.tables.specs.Steps.{Acts, acted, sentOf, turnBy, turnOn, turnAt}

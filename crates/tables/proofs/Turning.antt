@@ -1,15 +1,14 @@
 -- A turn on the tables is the published turn. Assumes nothing.
 use mathlib.Core.Path.{_≡_, refl, sym, _∙_}
-use mathlib.Core.Bool.{Bool, true, false, cond, not, _||_}
-use mathlib.Core.List.{List, [], _∷_}
-use Prim.Native.Nat.{ℕ, suc, _+_, _-_, _^_, _≤_, _<_}
-use native.Mathlib.Numerals.{add-one}
+use mathlib.Core.Bool.{Bool, true, false, cond, not}
+use mathlib.Core.List.{List, _∷_}
+use Prim.Native.Nat.{ℕ, suc, _-_, _^_, _≤_, _<_}
 use native.Mathlib.Nat.{lt-of-le-of-lt}
 use native.Mathlib.Omega.{arith}
-use lib.Dec.{eqb, ltb}
+use lib.Dec.{eqb}
 use lib.ListN.{getD}
 use lib.Bits.{bitAnd, and-le-l}
-use borrow.Author.Tests.{eqb-true, ltb-true, lt-ltb, leb-true}
+use borrow.Author.Tests.{eqb-true, lt-ltb, leb-true}
 use Rattle.published.specs.Rounds as published
 use Rattle.published.proofs.Reached.{next-round}
 use Rattle.published.specs.Rounds.{see, decides, settled, nextWorld, nextValue, done, checks, after, turn, turned, deciding, advancing, entering, parting, isRunning, Run, Answer}
