@@ -2,7 +2,7 @@
 -- nobody is past r + 2; one more failure makes it r + 2. Who goes on is one of the n and has not failed, so f is below n. Assumes nothing.
 use mathlib.Core.Path.{_≡_, refl}
 use Prim.Native.Nat.{ℕ, suc, _+_, _*_, _≤_}
-use mathlib.Core.Bool.{true, false}
+use mathlib.Core.Bool.{Bool, true, false}
 use native.Mathlib.Omega.{arith}
 use Rattle.published.specs.Rounds.{Run, Bench, absent, running, isFailed, find, decides, settled, newRun, newBench, Step}
 use Rattle.published.specs.Pause.{NoRoundAbove}
@@ -14,13 +14,16 @@ use Rattle.common.proofs.Updates.{put-same}
 use Rattle.published.proofs.Messages.{never}
 use Rattle.published.proofs.Moves.{failed-is, up-not-failed, Move}
 use Rattle.published.proofs.Invariant.{Base, running-bench}
-use Rattle.published.proofs.Changes.{at-start, at-turn, old, new, old-new, failed-mono}
+use Rattle.published.proofs.Changes.{failed-mono}
 use Rattle.published.proofs.Effects.{effect}
 use Rattle.published.proofs.Failures.{Fate, fell, stands, fate}
 use Rattle.published.proofs.Pause.{NoneFailedAbove, stops, none-above-move, none-failed-move}
 
+abbrev pub lost : Run → ℕ → Bool
+lost s i = isFailed (s i .state)
+
 abbrev pub failures : ℕ → Run → ℕ
-failures n s = count n (λ i. isFailed (s i .state))
+failures n s = count n (lost s)
 
 -- how far rounds have come, by failures and by benches
 pub record Few (n : ℕ) (s : Run) : Type 0 where
@@ -39,25 +42,19 @@ module _ (n : ℕ) (s : Run) (g : Base n s) (h : Few n s) where
         arith,
         stops n s g (h .floor) (h .pos) (h .fallen) (h .rounds) b k d t,
         h .few,
-        count-lt n (λ i. isFailed (s i .state)) b (running-bench n s g b k) (up-not-failed (s b .state) (λ z. clash (cc))),
+        count-lt n (lost s) b (running-bench n s g b k) (up-not-failed (s b .state) (λ z. clash (cc))),
       )
 
   module _ (a : Step) (b : ℕ) (x : Bench) (mv : Move n s a b x) where
-    still-failed : (i : ℕ) → isFailed (s i .state) ≡ true → isFailed (put s b x i .state) ≡ true
+    still-lost : (i : ℕ) → lost s i ≡ true → lost (put s b x) i ≡ true
     unfolding isFailed
-    still-failed i e = let f = effect n s g a b x mv in rw (failed-mono s b x (f .extra) (f .change) i (failed-is (s i .state) e)) refl
+    still-lost i e = let f = effect n s g a b x mv in rw (failed-mono s b x (f .extra) (f .change) i (failed-is (s i .state) e)) refl
 
     all-move : NoRoundAbove (2 * n + 1) (put s b x)
-    all-move d q v w m = let f = effect n s g a b x mv in elim (old-new s b x (f .extra) (f .change) d q v w m) [
-      | old m′ ↦ h .all d q v w m′
-      | new e z ↦ elim (f .news q v w z .sends) [
-        | at-start e₁ ↦ omega arith
-        | at-turn er k nd t ↦ omega (arith, goes-to b k nd t)
-      ]
-    ]
+    all-move = none-above-move n s g a b x mv (2 * n + 1) (omega arith) (goes-to b) (h .all)
 
     rounds-move : NoRoundAbove (h .floor + 2) (put s b x)
-    rounds-move = none-above-move n s g a b x mv (h .floor) (h .pos) (h .fallen) (h .rounds)
+    rounds-move = none-above-move n s g a b x mv (h .floor + 2) (omega arith) (stops n s g (h .floor) (h .pos) (h .fallen) (h .rounds) b) (h .rounds)
 
     few-by : Fate n a b x → Few n (put s b x)
     unfolding isFailed
@@ -67,7 +64,7 @@ module _ (n : ℕ) (s : Run) (g : Base n s) (h : Few n s) where
       few = omega (
         arith,
         h .few,
-        count-more (λ i. isFailed (s i .state)) (λ i. isFailed (put s b x i .state)) still-failed n b hb
+        count-more (lost s) (lost (put s b x)) still-lost n b hb
             (up-not-failed (s b .state) (effect n s g a b x mv .change .alive)) (rw put-same (rw f refl)),
       );
       fallen = λ d q v w k m. rounds-move d q v w m;
@@ -77,7 +74,7 @@ module _ (n : ℕ) (s : Run) (g : Base n s) (h : Few n s) where
     few-by (stands u) = record {
       floor = h .floor;
       pos = h .pos;
-      few = omega (arith, h .few, count-mono (λ i. isFailed (s i .state)) (λ i. isFailed (put s b x i .state)) still-failed n);
+      few = omega (arith, h .few, count-mono (lost s) (lost (put s b x)) still-lost n);
       fallen = none-failed-move n s g a b x mv (h .floor) u (h .fallen);
       rounds = rounds-move;
       all = all-move;

@@ -97,12 +97,14 @@ module _ (n : ℕ) (s : Run) (h : Base n s) (r : ℕ) (pos : 1 ≤ r) (fb : None
 -- ---- a move
 
 module _ (n : ℕ) (s : Run) (h : Base n s) (a : Step) (b : ℕ) (x : Bench) (mv : Move n s a b x) (r : ℕ) where
-  pub none-above-move : 1 ≤ r → NoneFailedAbove r s → NoRoundAbove (r + 2) s → NoRoundAbove (r + 2) (put s b x)
-  none-above-move pos fb rb d q v w m = let f = effect n s h a b x mv in elim (old-new s b x (f .extra) (f .change) d q v w m) [
+  -- no round above r comes by a start, nor by a turn where the bench does not go on to one
+  pub none-above-move : 1 ≤ r → (s b .state ≡ running → decides n b (s b) ≡ false → settled n b (s b) ≡ true → suc (s b .round) ≤ r)
+      → NoRoundAbove r s → NoRoundAbove r (put s b x)
+  none-above-move pos goes rb d q v w m = let f = effect n s h a b x mv in elim (old-new s b x (f .extra) (f .change) d q v w m) [
     | old m′ ↦ rb d q v w m′
     | new e z ↦ elim (f .news q v w z .sends) [
       | at-start e₁ ↦ omega arith
-      | at-turn er k nd t ↦ omega (arith, stops n s h r pos fb rb b k nd t)
+      | at-turn er k nd t ↦ omega (arith, goes k nd t)
     ]
   ]
 
@@ -121,7 +123,7 @@ module _ (n : ℕ) (r : ℕ) (pos : 1 ≤ r) where
   late-move s h a b x mv ne = record {
     base = base-move n s (h .base) a b x mv;
     fb = elim (fate n s a b x mv) [ fell e hb f ↦ absurd (ne e) | stands u ↦ none-failed-move n s (h .base) a b x mv r u (h .fb) ];
-    rb = none-above-move n s (h .base) a b x mv r pos (h .fb) (h .rb);
+    rb = none-above-move n s (h .base) a b x mv (r + 2) (omega arith) (stops n s (h .base) r pos (h .fb) (h .rb) b) (h .rb);
   }
 
   late-outcome : (s : Run) → Late n r s → (a : Step) (k : Answer) → Outcome n s a k → ((b : ℕ) → a ≡ fail b → k .number ≡ 0 → ⊥) → Late n r (k .run)

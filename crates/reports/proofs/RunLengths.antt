@@ -11,7 +11,7 @@ use Rattle.published.specs.Rounds.{Run, Bench, newRun, newBench, isFresh, Step,
 use Rattle.common.specs.Updates.{put}
 use Rattle.common.proofs.Tests.{split}
 use Rattle.common.proofs.Updates.{put-ind}
-use Rattle.published.proofs.Numbers.{refusal-range}
+use Rattle.published.proofs.Refusals.{number-upto-11}
 use Rattle.published.proofs.Moves.{Outcome, refused, moved, step-outcome}
 use Rattle.kinds.specs.declared.Size.{Size}
 use Rattle.kinds.specs.Sizes.{benchesOf}
@@ -113,26 +113,23 @@ unfolding benchLines stood
 benches-length zero s = omega arith
 benches-length (suc n) s = simp length-append (omega (arith, benches-length n s, bench-length (suc n) (s (suc n))))
 
--- ---- a step is answered by a small number, and lets one bench more be not fresh
+-- ---- a step lets one bench more be not fresh
 
 module _ (n : ℕ) where
-  outcome-small : (s : Run) (a : Step) (r : Answer) → Outcome n s a r → (r .number < 100) × (stood n (r .run) ≤ stood n s + 1)
+  stood-outcome : (s : Run) (a : Step) (r : Answer) → Outcome n s a r → stood n (r .run) ≤ stood n s + 1
   unfolding refuse done
-  outcome-small s a r (refused k f) = (omega (arith, refusal-range n s a (suc k) f), omega arith)
-  outcome-small s a r (moved b x m) = (omega arith, stood-put n b s x)
-
-  step-small : (s : Run) (a : Step) → (step n s a .number < 100) × (stood n (step n s a .run) ≤ stood n s + 1)
-  step-small s a = outcome-small s a (step n s a) (step-outcome n s a)
+  stood-outcome s a r (refused k f) = omega arith
+  stood-outcome s a r (moved b x m) = stood-put n b s x
 
   stood-after : (s : Run) (l : List Step) → stood n (runFrom n s l) ≤ stood n s + length l
   unfolding runFrom
   stood-after s [] = omega arith
-  stood-after s (a ∷ l) = omega (arith, stood-after (step n s a .run) l, step-small s a .1)
+  stood-after s (a ∷ l) = omega (arith, stood-after (step n s a .run) l, stood-outcome s a (step n s a) (step-outcome n s a))
 
 module _ (size : Size) where
   answer-below : (s : Run) (x : Said) → answerTo size s x .number < 100
   unfolding answerTo refuse
-  answer-below s (Does a) = step-small (benchesOf size) s (stepOf a) .0
+  answer-below s (Does a) = omega (arith, number-upto-11 (benchesOf size) s (stepOf a))
   answer-below s Malformed = omega arith
 
   answers-below : (s : Run) (l : List Said) → Below (answersFrom size s l)

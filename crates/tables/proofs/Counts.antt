@@ -48,5 +48,8 @@ room-for N fits = omega (arith, rounds-fit)
 pub reached : (N : ℕ) (t l : List (List ℕ)) → Sound N t l → Reached N (runOf t l)
 reached N t l s = subst (Reached N) (s .led) (reached-run N (s .steps))
 
+pub sent-few : (N : ℕ) (t l : List (List ℕ)) → Sound N t l → (k : ℕ) → rows places t k .sent ≤ 2 * N + 1
+sent-few N t l s = above-rows t l (2 * N + 1) (none-higher N (runOf t l) (reached N t l s))
+
 pub sent-fits : (N : ℕ) (t l : List (List ℕ)) → Sound N t l → (k : ℕ) → rows places t k .sent ≤ depth
-sent-fits N t l s k = omega (arith, above-rows t l (2 * N + 1) (none-higher N (runOf t l) (reached N t l s)) k, room-for N (s .fits))
+sent-fits N t l s k = omega (arith, sent-few N t l s k, room-for N (s .fits))

@@ -4,7 +4,6 @@
 use mathlib.Core.Path.{_≡_, refl, sym, ap, _∙_}
 use mathlib.Core.List.{List, [], _++_}
 use Prim.Native.Nat.{ℕ, suc, _+_, _*_, _≤_, _<_}
-use native.Mathlib.Omega.{arith}
 use lib.ListN.{getD}
 use Rattle.published.specs.Rounds.{Run, Step, start, turn, step, runFrom, newRun, chosen}
 use Rattle.published.proofs.Theorems as published
@@ -31,7 +30,7 @@ use Rattle.tables.proofs.Steps.{links}
 use Rattle.tables.proofs.Empty as empty
 use Rattle.tables.proofs.Meeting.{empty-meet}
 use Rattle.tables.proofs.Decisions.{decision-is}
-use Rattle.tables.proofs.Counts.{rows-above, above-rows, room-for}
+use Rattle.tables.proofs.Counts.{rows-above, above-rows, sent-few, sent-fits}
 use Rattle.tables.proofs.Local.{heard-local}
 use Rattle.tables.proofs.Refusing as refusing
 
@@ -45,11 +44,11 @@ pub empty-run : runOf (emptyTables .benches) (emptyTables .logs) ≡ newRun
 empty-run = empty.empty-run
 
 -- One step on sound tables: the answer is the published one, the tables after it stand for the published run, and they are sound again.
-pub step-links : (N : ℕ) → (t l : List (List ℕ)) → Sound N t l → (a : Step) → Links N (tableStep N t l a) (step N (runOf t l) a)
+pub step-links : (N : ℕ) (t l : List (List ℕ)) → Sound N t l → (a : Step) → Links N (tableStep N t l a) (step N (runOf t l) a)
 step-links = links
 
 -- The same of an answer and two tables that are promised to be those of a step.
-pub promise-links : (N : ℕ) → (t l : List (List ℕ)) → Sound N t l → (a : Step)
+pub promise-links : (N : ℕ) (t l : List (List ℕ)) → Sound N t l → (a : Step)
     → (r : ℕ) (t′ l′ : List (List ℕ)) → Acts r t′ l′ (tableStep N t l a)
     → Links N (record { answer = r; tables = record { benches = t′; logs = l′ } }) (step N (runOf t l) a)
 promise-links N t l s a r t′ l′ p = rw (p .answer, p .benches, p .logs) (step-links N t l s a)
@@ -99,13 +98,11 @@ two-more N fits l r pos below m nf =
 -- ---- W9: how far rounds come
 
 -- No row ever says a round above 2 N + 1, so a log has room for all that is sent.
-pub rounds-end : (N : ℕ) → N ≤ places → (l : List Step) → (k : ℕ) → lastSent N l k ≤ 2 * N + 1
-rounds-end N fits l =
-    let after = tablesFrom N emptyTables l in
-    above-rows (after .benches) (after .logs) (2 * N + 1) (rw (← tables-meet N fits l .run-is) (published.rounds-end N l))
+pub rounds-end : (N : ℕ) → N ≤ places → (l : List Step) (k : ℕ) → lastSent N l k ≤ 2 * N + 1
+rounds-end N fits l = sent-few N (tablesFrom N emptyTables l .benches) (tablesFrom N emptyTables l .logs) (tables-meet N fits l .stays)
 
-pub log-suffices : (N : ℕ) → N ≤ places → (l : List Step) → (k : ℕ) → lastSent N l k ≤ depth
-log-suffices N fits l k = omega (arith, rounds-end N fits l k, room-for N fits)
+pub log-suffices : (N : ℕ) → N ≤ places → (l : List Step) (k : ℕ) → lastSent N l k ≤ depth
+log-suffices N fits l = sent-fits N (tablesFrom N emptyTables l .benches) (tablesFrom N emptyTables l .logs) (tables-meet N fits l .stays)
 
 -- Whatever tables are handed in, no step answers 12, nor any number above it.
 pub answer-upto-11 : (N : ℕ) (t l : List (List ℕ)) (a : Step) → tableStep N t l a .answer ≤ 11
