@@ -88,7 +88,7 @@ unfoldable pub all : (ℕ → Bool) → List ℕ → Bool
 all p [] = true
 all p (k ∷ l) = p k && all p l
 
-pub among : (p : ℕ → Bool) (l : List ℕ) (k : ℕ) → all p l ≡ true → OneOf k l → p k ≡ true
+pub among : (p : ℕ → Bool) (k : ℕ) (l : List ℕ) → all p l ≡ true → OneOf k l → p k ≡ true
 unfolding all
-among p l k e (first m) = (both (p k) (all p m) e).0
-among p l k e (further j m o) = among p m k (both (p j) (all p m) e).1 o
+among p k l e (first m) = (both (p k) (all p m) e).0
+among p k l e (further j m o) = among p k m (both (p j) (all p m) e).1 o

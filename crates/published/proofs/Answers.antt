@@ -79,6 +79,7 @@ module _ (n : ℕ) (s : Run) where
   start_fails b v w k h (later _ _ _ _ e (later _ _ _ _ e₃ (later _ _ _ _ e₄ (here _ _ _ e₅)))) q = clash (cc)
   start_fails b v w k h (later _ _ _ _ e (later _ _ _ _ e₃ (later _ _ _ _ e₄ (later _ _ _ _ e₅ (here _ _ _ e₆))))) q = clash (cc)
   start_fails b v w k h (later _ _ _ _ e (later _ _ _ _ e₃ (later _ _ _ _ e₄ (later _ _ _ _ e₅ (later _ _ _ _ e₆ (here _ _ _ e₇)))))) q = clash (cc)
+  start_fails b v w k h (later _ _ _ _ e (later _ _ _ _ e₃ (later _ _ _ _ e₄ (later _ _ _ _ e₅ (later _ _ _ _ e₆ (later _ _ _ _ _ f)))))) q = elim f [ ]
 
   -- a start with a value up to 65,535 is never refused with 4
   pub start_never_4 : (b v w : ℕ) → v ≤ 65535 → (step n s (start b v w)).number ≡ 4 → ⊥

@@ -41,5 +41,5 @@ all_small (notice b f) = refl
 pub refusal_range : (n : ℕ) (s : Run) (a : Step) (k : ℕ) → Fails (checks n s a) k → (1 ≤ k) × (k ≤ 11)
 unfolding small
 refusal_range n s a k f =
-    let p = both (leb 1 k) (leb k 11) (among small (refusals a) k (all_small a) (refusal_among n s a k f)) in
+    let p = both (leb 1 k) (leb k 11) (among small k (refusals a) (all_small a) (refusal_among n s a k f)) in
     (leb-true 1 k p.0, leb-true k 11 p.1)

@@ -1,5 +1,7 @@
 // The numbers of benches, their places, and sets of benches as words: place k, which is bench k + 1, is bit k. A word has no place past 31.
 
+#![tactic(auto)]
+
 ghost use Rattle.std.specs.Prelude.{◌≡◌, ◌%◌, ◌^◌, ◌<◌, ◌≤◌, ltb};
 ghost use Rattle.common.specs.Benches.{is_bench};
 ghost use Rattle.common.specs.Places.{has, place_of};
