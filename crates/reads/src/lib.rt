@@ -23,6 +23,7 @@ pub enum Decision {
 }
 
 // The bench's state, one of those that crate `bench` names; fresh where a table has no such place.
+#[tactic(auto, using(crate::proofs::Reading::no_state, crate::proofs::Reading::has_state))]
 pub fn state_of(benches: &Benches, bench: BenchNo) -> u32
     ensures { result ≡ state_word benches.now bench.0 }
 {
@@ -34,6 +35,7 @@ pub fn state_of(benches: &Benches, bench: BenchNo) -> u32
 }
 
 // The last round that the bench sent a message of; 0 where it sent none, or a table has no such place.
+#[tactic(auto, using(crate::proofs::Reading::no_sent, crate::proofs::Reading::has_sent))]
 pub fn sent_of(benches: &Benches, bench: BenchNo) -> u32
     ensures { result ≡ sent_word benches.now bench.0 }
 {
@@ -45,6 +47,7 @@ pub fn sent_of(benches: &Benches, bench: BenchNo) -> u32
 }
 
 // What the bench has decided; nothing where a table has no such place.
+#[tactic(auto, using(crate::proofs::Reading::no_decision, crate::proofs::Reading::undecided, crate::proofs::Reading::decided))]
 pub fn decision_of(benches: &Benches, bench: BenchNo) -> Decision
     ensures { decision_is result ≡ decision_at benches.now bench.0 }
 {
@@ -59,6 +62,7 @@ pub fn decision_of(benches: &Benches, bench: BenchNo) -> Decision
 }
 
 // Whether a table has a place for the number.
+#[tactic(auto, using(sets::proofs::Numbers::bench_low, sets::proofs::Numbers::bench_top))]
 fn has_place(bench: BenchNo) -> bool
     ensures { result ≡ is_bench places bench.0 }
 {

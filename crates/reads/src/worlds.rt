@@ -21,6 +21,7 @@ pub fn lacks_one(benches: &Benches, world: u32, size: Size) -> bool
     false
 }
 
+#[tactic(auto, using(crate::proofs::Lacking::lacks_running, crate::proofs::Lacking::lacks_decided, crate::proofs::Lacking::lacks_other))]
 fn lacks_at(benches: &Benches, world: u32, j: usize) -> bool
     requires { j < places }
     ensures { result ≡ lacks_at benches.now world j }
@@ -48,6 +49,7 @@ pub fn lacked_by_one(benches: &Benches, logs: &Logs, k: usize, size: Size) -> bo
     false
 }
 
+#[tactic(auto, using(crate::proofs::Lacking::lacked_started, crate::proofs::Lacking::lacked_never))]
 fn lacked_at(benches: &Benches, logs: &Logs, k: usize, j: usize) -> bool
     requires { j < places }
     ensures { result ≡ lacked_at benches.now logs.now k j }
