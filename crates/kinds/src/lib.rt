@@ -1,6 +1,7 @@
 // The kinds of number that the rounds and the ledger speak of, the messages of a bench, a step as a caller hands it in, and how large a run is.
 // specs/Stand.antt says which message and which step of `published` each stands for, specs/Sizes.antt the numbers of each size. There are no
 // functions here: a number is checked where it is used, so each kind holds any u32.
+#![tactic(auto)]
 
 // How many benches a run has, or how many senders a ledger. Whoever needs a limit takes a size, so that no limit can be wrong.
 #[derive(Drop)]

@@ -1,5 +1,7 @@
 // What is reported of a run text and of a ledger script, as definitions and theorems in specs/ and proofs/; and the type by which both report
 // functions answer. There are no functions here.
+#![tactic(auto)]
+
 use kinds::AnswerNo;
 
 // The bytes of the longest text that is played.

@@ -1,5 +1,7 @@
 // How the lines of run texts and of ledger scripts are spelled, and how they are read back, as definitions and theorems in specs/ and proofs/;
 // and the types by which functions speak of them. There are no functions here.
+#![tactic(auto)]
+
 use kinds::{AnswerNo, BenchNo, SlotNo, Step};
 
 // A number and the place behind it, or none.
