@@ -1,6 +1,8 @@
 // A bench by value: its counts and flags, and what it makes of a message, a notice and a turn.
 // Its messages stand in its log, which the run keeps; `taken` says how far it has read each log.
 
+#![tactic(auto)]
+
 mod changes;
 mod turns;
 
@@ -23,7 +25,7 @@ pub const FAILED: u32 = 5;
 // Sets of benches hold bench i as bit i - 1: `world`, `outs` (whose OUT it has taken) and `noticed`.
 // sent: the last round sent, or 0. silent: 1 once it has sent OUT. chose: 1 once it has decided on `value`.
 // taken: how many round messages it has taken of each bench, its own included.
-#[derive(Drop)]
+#[derive(Clone, Copy)]
 pub struct Bench {
     pub state: u32,
     pub round: RoundNo,
@@ -38,7 +40,7 @@ pub struct Bench {
 }
 
 // What a bench has heard of its round: from whom, with which value and world.
-#[derive(Drop)]
+#[derive(Clone, Copy)]
 pub struct Heard {
     pub set: u32,
     pub values: [u32; PLACES],
@@ -46,27 +48,27 @@ pub struct Heard {
 }
 
 // The least value heard, and who was heard.
-#[derive(Drop)]
+#[derive(Clone, Copy)]
 pub struct Gathered {
     pub value: SlotNo,
     pub world: u32,
 }
 
-#[derive(Drop)]
+#[derive(Clone, Copy)]
 pub enum Answer {
     Decided(SlotNo, Message),
     Went(Message),
     Refused(AnswerNo),
 }
 
-#[derive(Drop)]
+#[derive(Clone, Copy)]
 pub struct Turned {
     pub bench: Bench,
     pub answer: Answer,
 }
 
 // What waits on a line.
-#[derive(Drop)]
+#[derive(Clone, Copy)]
 pub enum Waiting {
     Next(Message),
     Nothing,

@@ -1,1 +1,3 @@
 // The ledger of one bench, as definitions and theorems in specs/ and proofs/. There is no code here.
+
+#![tactic(auto)]

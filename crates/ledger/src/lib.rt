@@ -1,6 +1,9 @@
 // One bench's store of received sweeps, handed out slot by slot. All of it is words that the caller lends: a cursor, a table of the senders'
 // rows, and a room for the sweeps held. Each step works in place and returns its number. specs/Book.antt of `book` says what each step does,
 // specs/Seen.antt which book the words are, specs/Promises.antt what is promised.
+
+#![tactic(auto)]
+
 use kinds::{AnswerNo, SlotNo};
 pub use senders::{LAST_SLOT, ROW_LENGTH, Row, RowWords};
 
@@ -37,14 +40,14 @@ pub const JOINED: usize = 2;
 pub type RoomWords = [u64; ROOM];
 
 // Where the ledger stands: the next slot to hand out, and how many sweeps are held.
-#[derive(Drop)]
+#[derive(Clone, Copy)]
 pub struct Cursor {
     pub next: SlotNo,
     pub held: u32,
 }
 
 // How many tags were written, or the number of the refusal alone.
-#[derive(Drop)]
+#[derive(Clone, Copy)]
 pub enum HandOut {
     Written(usize),
     Refused(AnswerNo),

@@ -17,7 +17,7 @@ const SLOT_UNIT: u64 = 4294967296;
 const SLOTS: u32 = 65536;
 
 // The sweeps that a step takes out: those of a slot, or those of a sender from a slot on.
-#[derive(Drop)]
+#[derive(Clone, Copy)]
 pub(crate) enum Part {
     Of(SlotNo),
     From(BenchNo, SlotNo),

@@ -8,7 +8,7 @@ use ledger::{CursorWords, HandOut, ROOM, RoomWords, RowWords};
 use spelling::{LedgerSaid, LedgerStep};
 
 // A line's answer: its number, how many tags it wrote, and whether it is a hand-out that was done.
-#[derive(Drop)]
+#[derive(Clone, Copy)]
 pub(crate) struct Played {
     pub number: AnswerNo,
     pub count: usize,

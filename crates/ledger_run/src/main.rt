@@ -1,6 +1,9 @@
 // Plays the ledger script on standard input and prints its report to standard output: docs/LEDGER-SCRIPT.md. Of a text that is too long it
 // prints the refusal alone. Where the input cannot be read to its end, or the report not be written whole, it says so on standard error; a Rattle
 // program has no exit status, so the command ./funkenrille gives one.
+
+#![tactic(auto)]
+
 use ledger_report::{ROOM, report};
 use libc::{STDERR_FILENO, STDIN_FILENO, STDOUT_FILENO};
 use reports::{LONGEST, Reported};

@@ -1,5 +1,8 @@
 // Ledger scripts: a line read. A script is read line by line from place 0 on. The contract cites `read_script_line_of` of crate `spelling`,
 // whose proofs/LedgerTheorems.antt says what it comes to; docs/LEDGER-SCRIPT.md is the format.
+
+#![tactic(auto)]
+
 ghost use Rattle.std.specs.Prelude.{◌≡◌};
 ghost use Rattle.spelling.specs.LedgerReading.{read_script_line_of};
 

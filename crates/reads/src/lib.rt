@@ -1,4 +1,7 @@
 // What is read off the two tables, and nothing is changed: what a report says of a bench, and what a start asks of the worlds (worlds.rt).
+
+#![tactic(auto)]
+
 ghost use Rattle.std.specs.Prelude.{◌≡◌};
 ghost use Rattle.common.specs.Benches.{is_bench};
 ghost use Rattle.kinds.specs.Sizes.{places};
@@ -13,7 +16,7 @@ use tables::{Benches, CHOSE, SENT, STATE, VALUE};
 pub mod worlds;
 
 // What a bench has decided.
-#[derive(Drop)]
+#[derive(Clone, Copy)]
 pub enum Decision {
     None,
     Chosen(SlotNo),

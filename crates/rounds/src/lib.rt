@@ -1,6 +1,9 @@
 // A run as two lent tables: a row for each bench, and its log. The seven steps, and one over all of them.
 // Each promises `table_step` of crate `tables`, for all tables that can be handed in: the answer, 0 or the refusal's number, and both
 // tables after. A refusal leaves both as they were.
+
+#![tactic(auto)]
+
 mod arrivals;
 mod departures;
 mod lines;

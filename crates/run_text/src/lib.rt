@@ -1,6 +1,9 @@
 // Run text: a line read and a line written. A text is read line by line from place 0 on, and written line by line, each where the
 // one before ended. A world names no bench but those that there are. The contracts cite `read_line_of` and `write_line_of` of crate
 // `spelling`, whose proofs/Theorems.antt says what they come to.
+
+#![tactic(auto)]
+
 ghost use Rattle.std.specs.Prelude.{◌≡◌};
 ghost use Rattle.kinds.specs.Sizes.{benches_of};
 ghost use Rattle.spelling.specs.Reading.{read_line_of};

@@ -1,5 +1,8 @@
 // What a ledger knows of a sender, by value and as three words: what its row says, and the row after a close and after an end. In table.rt
 // the rows of all senders, and the set of those that have joined.
+
+#![tactic(auto)]
+
 ghost use Rattle.std.specs.Prelude.{◌≡◌, suc};
 ghost use Rattle.book.specs.Book.{joined, ended, has_joined, is_open, first_slot, open_slot, is_member, done_with};
 ghost use Rattle.senders.specs.Rows.{row_is};
@@ -31,7 +34,7 @@ const NO_END: u32 = 0;
 pub type RowWords = [SenderWords; PLACES];
 
 // Nothing; its first and its open slot; these and its end.
-#[derive(Drop)]
+#[derive(Clone, Copy)]
 pub enum Row {
     Unknown,
     Joined {

@@ -1,5 +1,8 @@
 // A run as two tables of words, a row for each bench in both: their types, and where each word of a bench's row stands. What the seven steps do
 // to them, which run they stand for, and that the steps are the published rounds: definitions and theorems in specs/ and proofs/. There is no code here.
+
+#![tactic(auto)]
+
 use kinds::{DEPTH, PLACES};
 
 // Row k is bench k + 1's.

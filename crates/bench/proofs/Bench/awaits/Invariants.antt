@@ -1,0 +1,13 @@
+-- `Bench::awaits`: no place below k is awaited.
+use mathlib.Core.Path.{◌≡◌}
+use mathlib.Core.Bool.{false}
+use Prim.Native.Nat.{◌≤◌, ◌-◌}
+use Rattle.common.specs.Places.{some}
+use Rattle.bench.specs.Turns.{awaited_at}
+use Rattle.bench.proofs.Bench.awaits.Given as goal
+
+abbrev pub invariant-loop-k : goal.invariant-loop-k
+invariant-loop-k l = (l.k ≤ l.n) × (some (awaited_at l.self l.h) l.k ≡ false)
+
+abbrev pub decreases-loop-k : goal.decreases-loop-k
+decreases-loop-k l = l.n - l.k
