@@ -14,4 +14,4 @@ pub returns : goal.returns
 unfolding book_of held_in new_book cursor_of row_is
 returns c =
     let nobody : c.words_of-nobody.result ≡ words_of unknown = c.words_of-nobody.ensures in
-    rw nobody record { book-is = λ room. rw (rows_new (replicate places (words_of unknown))); cursor-is = refl; rows_are = refl }
+    rw nobody record { book_is = λ room. rw (rows_new (replicate places (words_of unknown))); cursor_is = refl; rows_are = refl }

@@ -2,6 +2,7 @@
 use native.Mathlib.Omega.{arith}
 use Prim.Native.Nat.{◌<◌}
 use mathlib.Core.Path.{refl, ap, ◌∙◌}
+use mathlib.Core.Bool.{not}
 use lib.ListN.{length}
 use Rattle.book.specs.Book.{checks, only}
 use Rattle.senders.specs.Rows.{row_is}
@@ -16,7 +17,7 @@ use Rattle.ledger.proofs.sweeping.end_in.Goals as goal
 
 pub returns-then-not-is_bench : goal.returns-then-not-is_bench
 unfolding checks
-returns-then-not-is_bench c = no_sender _ _ _ c.is_bench.ensures _ _ _ refl c.if-not-is_bench.true
+returns-then-not-is_bench c = no_sender _ _ _ c.is_bench.ensures _ _ _ refl (ap not c.if-not-is_bench.true)
 
 pub take_out-left-requires : goal.take_out-left-requires
 unfolding only held_in
@@ -28,29 +29,23 @@ overflow_cast-cursor c = omega (arith, c.count-held.ensures, left_few _ _ _ _ _ 
 pub returns-then-number-eq0 : goal.returns-then-number-eq0
 unfolding book_of
 returns-then-number-eq0 c =
-    let at-number = c in
-    let at_place = at-number.before.before.before.before.before in
-    let at_test = at_place.before in
-    let z = at_test.before.before.before.args in
+    let z = c.args in
     let n = benches_of z.size in
-    let bench = is_sender n z.sender.0 _ at_test.before.is-bench.ensures at_test.if1.false in
-    let p = at_place.place in
-    let row = at-number.before.before.row_at in
+    let bench = is_sender n z.sender.0 _ c.is_bench.ensures (ap not c.if-not-is_bench.false) in
+    let p = c.place-i in
+    let row = c.row_at-known in
     let x = lending z.cursor.now z.rows.now z.room.now in
     let there : p.result < length z.rows.now = omega (arith, p.ensures, row.ensures.1) in
-    end_done n (benches_fit z.size) x z.sender.0 p.result bench p.ensures.0 (row_is row.result) row.ensures.0 there _ z.slot.0 (c.words_of.ensures ∙ ap words_of c.ended-row.ensures) at_test.before.before.before.requires _ c.count-held.ensures _ _ c.take_out-left.ensures _
-    (at-number.end-number.ensures n (book_of x) z.sender.0 bench (knows n (benches_fit z.size) x z.sender.0 p.result bench p.ensures.0 (row_is row.result) row.ensures.0) refl) c.if-number-eq0.true
+    end_done n (benches_fit z.size) x z.sender.0 p.result bench p.ensures.0 (row_is row.result) row.ensures.0 there _ z.slot.0 (c.words_of.ensures ∙ ap words_of c.ended-row.ensures) c.requires _ c.count-held.ensures _ _ c.take_out-left.ensures _
+    (c.end_number-number.ensures n (book_of x) z.sender.0 bench (knows n (benches_fit z.size) x z.sender.0 p.result bench p.ensures.0 (row_is row.result) row.ensures.0) refl) c.if-number-eq0.true
 
 pub returns-else-number-eq0 : goal.returns-else-number-eq0
 unfolding book_of
 returns-else-number-eq0 c =
-    let at-number = c in
-    let at_place = at-number.before.before.before.before.before in
-    let at_test = at_place.before in
-    let z = at_test.before.before.before.args in
+    let z = c.args in
     let n = benches_of z.size in
-    let bench = is_sender n z.sender.0 _ at_test.before.is-bench.ensures at_test.if1.false in
-    let p = at_place.place in
-    let row = at-number.before.before.row_at in
+    let bench = is_sender n z.sender.0 _ c.is_bench.ensures (ap not c.if-not-is_bench.false) in
+    let p = c.place-i in
+    let row = c.row_at-known in
     let x = lending z.cursor.now z.rows.now z.room.now in
-    tells_refused n x _ _ (at-number.end-number.ensures n (book_of x) z.sender.0 bench (knows n (benches_fit z.size) x z.sender.0 p.result bench p.ensures.0 (row_is row.result) row.ensures.0) refl) c.if-number-eq0.false
+    tells_refused n x _ _ (c.end_number-number.ensures n (book_of x) z.sender.0 bench (knows n (benches_fit z.size) x z.sender.0 p.result bench p.ensures.0 (row_is row.result) row.ensures.0) refl) c.if-number-eq0.false

@@ -13,4 +13,4 @@ pub returns-then-held : goal.returns-then-held
 returns-then-held c = (λ n b s tag bench known full. search sweep_25, λ z. absurd (omega arith))
 
 pub returns : goal.returns
-returns c = (λ n b s tag bench known full. search sweep_0, λ e. (omega (arith, c.open_slot_lem.ensures), omega arith))
+returns c = (λ n b s tag bench known full. search sweep_0, λ e. (omega (arith, c.open_slot-open.ensures), omega arith))

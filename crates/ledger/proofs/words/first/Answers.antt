@@ -1,6 +1,5 @@
 -- `ledger::words::first` meets its contract: none of the words passed is of the slot. Assumes nothing.
 use native.Mathlib.Omega.{arith}
-use Prim.Native.Nat.{◌-◌}
 use mathlib.Core.Path.{sym, ◌∙◌}
 use Rattle.ledger.proofs.Seats.{none_more}
 use Rattle.ledger.proofs.words.first.Goals as goal

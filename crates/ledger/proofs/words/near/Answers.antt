@@ -1,6 +1,5 @@
 -- `ledger::words::near` meets its contract: none of the words passed is of the slot. Assumes nothing.
 use native.Mathlib.Omega.{arith}
-use Prim.Native.Nat.{◌-◌}
 use Rattle.ledger.proofs.Seats.{none_on}
 use Rattle.ledger.proofs.words.near.Goals as goal
 

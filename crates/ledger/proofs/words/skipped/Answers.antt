@@ -1,6 +1,5 @@
 -- `ledger::words::skipped` meets its contract: none of the words passed is of the slot. Assumes nothing.
 use native.Mathlib.Omega.{arith}
-use Prim.Native.Nat.{◌-◌}
 use mathlib.Core.Path.{refl}
 use Rattle.book.specs.Book.{only}
 use Rattle.ledger.specs.Seen.{held_in}
