@@ -28,11 +28,13 @@ member_is : (k : ℕ) (r : Row) → Counts k r → is_member k r ≡ true
 unfolding is_member
 member_is k (joined f o) h = le-leb f k h
 member_is k (ended f o x) h = rw (le-leb f k h.0, lt-ltb k x h.1) refl
+member_is k unknown h = elim h [ ]
 
 closed_is : (k : ℕ) (r : Row) → Closed k r → ltb k (open_slot r) ≡ true
 unfolding open_slot
 closed_is k (joined f o) h = lt-ltb k o h
 closed_is k (ended f o x) h = lt-ltb k o h
+closed_is k unknown h = elim h [ ]
 
 is_closed : (k : ℕ) (r : Row) → is_member k r ≡ true → ltb k (open_slot r) ≡ true → Closed k r
 unfolding open_slot is_member

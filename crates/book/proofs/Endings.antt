@@ -64,6 +64,7 @@ fails_not_18 n b s v d k h r (later j c m i e (later j₂ c₂ m₂ i₂ e₂ (h
 fails_not_18 n b s v d k h r (later j c m i e (later j₂ c₂ m₂ i₂ e₂ (later j₃ c₃ m₃ i₃ e₃ (here j₄ c₄ m₄ e₄)))) q =
     let z = reached_18 v d h (b.rows s) r e₃ in clash (cc)
 fails_not_18 n b s v d k h r (later j c m i e (later j₂ c₂ m₂ i₂ e₂ (later j₃ c₃ m₃ i₃ e₃ (later j₄ c₄ m₄ i₄ e₄ (here j₅ c₅ m₅ e₅))))) q = clash (cc)
+fails_not_18 n b s v d k h r (later _ _ _ _ e (later _ _ _ _ e₂ (later _ _ _ _ e₃ (later _ _ _ _ e₄ (later _ _ _ _ _ z))))) q = elim z [ ]
 
 pub never_18 : (n : ℕ) (b : Book) (s v d : ℕ) → d ≤ v → Reaches v (b.rows s) → (step n b (end s d)).number ≡ 18 → ⊥
 unfolding answer

@@ -188,6 +188,7 @@ module _ (n : ℕ) (b : Book) (h : Kept n b) where
       earlier : (r : Row) → Stands b.next r → DoneWith (suc k) r → DoneWith k r
       earlier (joined f o) g d c = let z = d (omega arith) in omega arith
       earlier (ended f o e) g d c = let x = c.1 in omega arith
+      earlier unknown g d c = elim c [ ]
 
   -- no open slot is above 65,535
   pub kept_slot : (s : ℕ) → open_slot (b.rows s) ≤ suc last_slot

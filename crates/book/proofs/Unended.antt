@@ -33,6 +33,7 @@ module _ (n : ℕ) (b : Book) (s f o : ℕ) (e : b.rows s ≡ joined f o) where
   sweep_fails t k (later _ _ _ _ q (here _ _ _ q₂)) = let z = is_open_lem in clash (cc)
   sweep_fails t k (later _ _ _ _ q (later _ _ _ _ q₂ (here _ _ _ q₃))) = further 0 _ (further 1 _ (first _))
   sweep_fails t k (later _ _ _ _ q (later _ _ _ _ q₂ (later _ _ _ _ q₃ (here _ _ _ q₄)))) = further 0 _ (further 1 _ (further 17 _ (first _)))
+  sweep_fails t k (later _ _ _ _ q (later _ _ _ _ q₂ (later _ _ _ _ q₃ (later _ _ _ _ _ z)))) = elim z [ ]
 
   pub sweep_open : (t : ℕ) → OneOf (step n b (sweep s t)).number (0 ∷ 1 ∷ 17 ∷ 25 ∷ [])
   unfolding answer
@@ -45,6 +46,7 @@ module _ (n : ℕ) (b : Book) (s f o : ℕ) (e : b.rows s ≡ joined f o) where
   sweep_low_fails t k lo (later _ _ _ _ q (here _ _ _ q₂)) = let z = is_open_lem in clash (cc)
   sweep_low_fails t k lo (later _ _ _ _ q (later _ _ _ _ q₂ (here _ _ _ q₃))) = absurd (omega (arith, open_slot_lem, leb-false (open_slot (b.rows s)) last_slot q₃))
   sweep_low_fails t k lo (later _ _ _ _ q (later _ _ _ _ q₂ (later _ _ _ _ q₃ (here _ _ _ q₄)))) = further 0 _ (further 1 _ (first _))
+  sweep_low_fails t k lo (later _ _ _ _ q (later _ _ _ _ q₂ (later _ _ _ _ q₃ (later _ _ _ _ _ z)))) = elim z [ ]
 
   pub sweep_low : (t : ℕ) → o ≤ last_slot → OneOf (step n b (sweep s t)).number (0 ∷ 1 ∷ 25 ∷ [])
   unfolding answer
@@ -57,6 +59,7 @@ module _ (n : ℕ) (b : Book) (s f o : ℕ) (e : b.rows s ≡ joined f o) where
   close_fails k (here _ _ _ q) = further 0 _ (first _)
   close_fails k (later _ _ _ _ q (here _ _ _ q₂)) = let z = is_open_lem in clash (cc)
   close_fails k (later _ _ _ _ q (later _ _ _ _ q₂ (here _ _ _ q₃))) = further 0 _ (further 1 _ (first _))
+  close_fails k (later _ _ _ _ q (later _ _ _ _ q₂ (later _ _ _ _ _ z))) = elim z [ ]
 
   pub close_open : OneOf (step n b (close s)).number (0 ∷ 1 ∷ 17 ∷ [])
   unfolding answer
@@ -67,6 +70,7 @@ module _ (n : ℕ) (b : Book) (s f o : ℕ) (e : b.rows s ≡ joined f o) where
   close_low_fails k lo (here _ _ _ q) = further 0 _ (first _)
   close_low_fails k lo (later _ _ _ _ q (here _ _ _ q₂)) = let z = is_open_lem in clash (cc)
   close_low_fails k lo (later _ _ _ _ q (later _ _ _ _ q₂ (here _ _ _ q₃))) = absurd (omega (arith, open_slot_lem, leb-false (open_slot (b.rows s)) last_slot q₃))
+  close_low_fails k lo (later _ _ _ _ q (later _ _ _ _ q₂ (later _ _ _ _ _ z))) = elim z [ ]
 
   pub close_low : o ≤ last_slot → OneOf (step n b (close s)).number (0 ∷ 1 ∷ [])
   unfolding answer
@@ -81,6 +85,7 @@ module _ (n : ℕ) (b : Book) (s f o : ℕ) (e : b.rows s ≡ joined f o) where
   end_fails x k le nx (later _ _ _ _ q (later _ _ _ _ q₂ (here _ _ _ q₃))) = let z = is_open_lem in clash (cc)
   end_fails x k le nx (later _ _ _ _ q (later _ _ _ _ q₂ (later _ _ _ _ q₃ (here _ _ _ q₄)))) = absurd (omega (arith, open_slot_lem, leb-false x (open_slot (b.rows s)) q₄))
   end_fails x k le nx (later _ _ _ _ q (later _ _ _ _ q₂ (later _ _ _ _ q₃ (later _ _ _ _ q₄ (here _ _ _ q₅))))) = absurd (omega (arith, leb-false b.next x q₅))
+  end_fails x k le nx (later _ _ _ _ q (later _ _ _ _ q₂ (later _ _ _ _ q₃ (later _ _ _ _ q₄ (later _ _ _ _ _ z))))) = elim z [ ]
 
   pub end_open : (x : ℕ) → x ≤ o → b.next ≤ x → OneOf (step n b (end s x)).number (0 ∷ 1 ∷ [])
   unfolding answer

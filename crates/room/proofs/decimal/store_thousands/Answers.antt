@@ -1,0 +1,13 @@
+-- `store_thousands` meets its contract. Two parts, the second of which is one digit. Assumes nothing.
+use native.Mathlib.Omega.{arith}
+use Rattle.spelling.proofs.Decimals.{parts_front, parts_last, parts_stored}
+use Rattle.room.proofs.decimal.store_thousands.Goals as goal
+
+pub store_hundreds-a-requires : goal.store_hundreds-a-requires
+store_hundreds-a-requires c = (omega arith, omega arith, parts_front c.args.n (omega arith) (omega arith) _ c.requires.2)
+
+pub store_digit-requires : goal.store_digit-requires
+store_digit-requires c = (omega arith, parts_last c.args.n (omega arith) (omega arith) c.store_hundreds-a.ensures c.requires.2)
+
+pub returns : goal.returns
+returns c = parts_stored c.args.n (omega arith) (omega arith) c.store_hundreds-a.ensures c.store_digit.ensures
