@@ -1,10 +1,11 @@
-# The C library, for x86-64 Linux: 'make', 'make check', 'make install DESTDIR= PREFIX=/usr/local'. Everything that is made stands in target/.
+# The C library, for x86-64 Linux: 'make', 'make check', 'make install DESTDIR= PREFIX=/usr/local'. Everything that is made stands in target/, but for the
+# archive of the proved crates, which rt puts into the crate's out/.
 # On another machine Debian's cross tools (gcc-x86-64-linux-gnu) make the same library.
 
 VERSION := $(shell cat VERSION)
 # the number in the shared library's name: it changes where a program that was linked no longer works, or gets another report of a run text
 ABI := 1
-CRATE := run_report# the crate that exports the C function
+CRATE := run_report_c# the crate that exports the C function, a static library
 PREFIX := /usr/local
 
 ifneq ($(shell uname -m),x86_64)
@@ -16,7 +17,7 @@ LD := $(CROSS)ld
 OBJCOPY := $(CROSS)objcopy
 CFLAGS := -std=c11 -O2 -Wall -Wextra -Werror
 
-ARCHIVE := target/staticlib/lib$(CRATE).a
+ARCHIVE := crates/$(CRATE)/out/lib$(CRATE).a
 OUT := target/c
 SHARED := libfunkenrille.so.$(VERSION)
 FILLED := sed -e 's|@VERSION@|$(VERSION)|g' -e 's|@PREFIX@|$(PREFIX)|g'
@@ -24,8 +25,9 @@ FILLED := sed -e 's|@VERSION@|$(VERSION)|g' -e 's|@PREFIX@|$(PREFIX)|g'
 all: $(OUT)/libfunkenrille.a $(OUT)/$(SHARED) $(OUT)/funkenrille.pc $(OUT)/funkenrille.1
 
 # proves the crate and all that it stands on
-$(ARCHIVE): crates.txt $(shell find crates -name '*.rt' -o -name '*.antt')
-	rt staticlib $(CRATE)
+$(ARCHIVE): crates.txt $(shell find crates -name out -prune -o '(' -name '*.rt' -o -name '*.antt' ')' -print)
+	cd crates/$(CRATE) && rt lib
+	@touch $@ # rt does not write an archive anew whose sources' times alone have changed
 
 $(OUT)/funkenrille.h: include/funkenrille.h.in VERSION
 	@mkdir -p $(OUT)

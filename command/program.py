@@ -17,22 +17,31 @@ REFUSED = b"refused=23\n"
 
 
 def kit_tools():
-    """The kit's tools for this machine."""
+    """The kit's tools, with the loader and the libraries that its programs are linked with."""
     rt = shutil.which("rt")
     if not rt:
         raise Failure(NOT_BUILT, "there is no command 'rt' here: install the Rattle kit and put its bin/ on PATH")
     kit = Path(rt).resolve().parent.parent
-    machine = os.uname().machine
-    tools = kit / "on" / machine / "toolchain"
+    tools = kit / "toolchain"
     if not os.access(tools / "lib" / "ld-linux-x86-64.so.2", os.R_OK):
-        raise Failure(NOT_BUILT, f"the Rattle kit at {kit} has no tools for this machine ({machine})")
+        raise Failure(NOT_BUILT, f"the Rattle kit at {kit} has no toolchain/lib/ld-linux-x86-64.so.2, by which programs are started")
     return tools
 
 
+def emulator():
+    """The words before a program, since programs are x86-64 always: none on such a machine, and QEMU on another."""
+    machine = os.uname().machine
+    if machine == "x86_64":
+        return []
+    found = shutil.which("qemu-x86_64")
+    if not found:
+        raise Failure(NOT_BUILT, f"programs are x86-64, and this machine ({machine}) has no qemu-x86_64 to run them: install Debian's qemu-user")
+    return [found]
+
+
 def words(tools, program):
-    """How the program is started: programs are x86-64 always, and on another machine the kit has an emulator."""
-    emulator = tools / "bin" / "qemu-x86_64"
-    return [*([emulator] if emulator.exists() else []), tools / "lib" / "ld-linux-x86-64.so.2", "--library-path", tools / "lib", program]
+    """How the program is started: by the kit's loader, with the libraries that it was linked with."""
+    return [*emulator(), tools / "lib" / "ld-linux-x86-64.so.2", "--library-path", tools / "lib", program]
 
 
 def whole(report, text):
@@ -54,7 +63,7 @@ def played(tools, program, text):
 
 def report(top, name, text):
     """The program's report, built where it has to be. A program that gives no whole report is broken, and is built again, once."""
-    tools, program = kit_tools(), top / "target" / "bin" / name
+    tools, program = kit_tools(), build.program(top, name)
     build.ready(top, name)
     made = played(tools, program, text)
     if made is None:

@@ -27,7 +27,7 @@ def fault(place, words):
 
 def module(path):
     """The file of a module's path, None where it is the toolchain's or a type of the code."""
-    parts = re.match(r"Rattle·([a-z_]+)(?:·(?:specs|proofs))?\.(specs|proofs)\.(.+)$", path)
+    parts = re.match(r"Rattle\.([a-z_]+)\.(specs|proofs)\.(.+)$", path)
     if not parts or parts[3].startswith("declared"):
         return None
     file = CRATES / parts[1] / parts[2] / (parts[3].replace(".", "/") + ".antt")
@@ -152,6 +152,16 @@ def theorems():
     return goals, count
 
 
+def clauses(head):
+    """The texts of a function's clauses, `ensures { .. }` and `ensures NAME { .. }`, to the brace that ends each."""
+    for found in re.finditer(r"^ *(?:requires|ensures)\b[^{\n]*\{", head, re.M):
+        depth, at = 1, found.end()
+        while depth:
+            depth += {"{": 1, "}": -1}.get(head[at], 0)
+            at += 1
+        yield head[found.end():at - 1]
+
+
 def promises():
     """What the promises of public functions name, each with the function."""
     goals, count = [], 0
@@ -160,9 +170,9 @@ def promises():
         names, modules = scope(text, "ghost use")
         for name, head in re.findall(r"^ *pub (?:extern \"C\" )?fn (\w+)(.*?)^ *\{$", text, re.M | re.S):
             count += 1
-            if re.search(r"^ *requires \{", head, re.M):
+            if re.search(r"^ *requires\b", head, re.M):
                 fault(source, f"the public function {name} asks something of its caller")
-            for token in re.findall(rf"{NAME}(?:\.{NAME})?", " ".join(re.findall(r"⌜(.*?)⌝", head, re.S))):
+            for token in re.findall(rf"{NAME}(?:\.{NAME})?", " ".join(clauses(head))):
                 alias, _, rest = token.partition(".")
                 if token in names or alias in names:
                     goals.append((*names.get(token, names.get(alias)), [f"{source.parent.parent.name}::{name}"]))

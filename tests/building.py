@@ -1,7 +1,8 @@
 #!/usr/bin/env python3
 """Building by ./funkenrille, in a copy of the checkout: what it tells, what it leaves where it is broken off, two at once, a broken program, a source that is refused, and a checkout
-that cannot be written. The copy has the proved libraries of this checkout, so that only the program itself has to be built."""
+that cannot be written. The copy has the proved libraries of this checkout (`rt lib` in crates/run_report_c makes them), so that only the program itself has to be built."""
 
+import hashlib
 import os
 import pathlib
 import pty
@@ -15,7 +16,11 @@ import time
 
 import programs
 
+sys.path.insert(0, str(programs.TOP / "command"))
+import build  # noqa: E402
+
 NAME = "run"
+LOWEST = "crates/common/specs/Benches.antt"  # a source that every other crate stands on
 TEXT, REPORT = (programs.TOP / "crates" / NAME / part for part in ("stdin", "stdout"))
 PARTS = ("funkenrille", "command", "crates", "crates.txt", "VERSION")
 NOBODY = ["setpriv", "--reuid=65534", "--regid=65534", "--clear-groups"]
@@ -32,16 +37,22 @@ class Checkout:
         os.chmod(self.room, 0o777)
         for part in PARTS:
             copy(programs.TOP / part, self.top / part)
+        self.program, self.stamp = build.program(self.top, NAME), build.program(self.top, NAME).with_name(f"{NAME}.stamp")
 
     def libraries(self):
         """Gives it the libraries, and a program that is half written: rt leaves no stamp of such a one."""
-        for part in ("rlib", "stamp"):
-            copy(programs.TOP / "target" / part, self.top / "target" / part)
-        (self.top / "target" / "stamp" / NAME).unlink()
-        (self.top / "target" / "bin").mkdir()
-        program = self.top / "target" / "bin" / NAME
-        program.write_bytes((programs.TOP / "target" / "bin" / NAME).read_bytes()[:5000])
-        program.chmod(0o755)
+        for crate in build.crates_of(self.top, NAME)[:-1]:
+            if not (build.made(programs.TOP, crate) / "rlib" / "stamp").exists():
+                programs.stop(f"crates/{crate}/out/rlib is not built: run 'rt lib' in crates/run_report_c first")
+            copy(build.made(programs.TOP, crate) / "rlib", build.made(self.top, crate) / "rlib")
+        self.program.parent.mkdir()
+        self.halve(programs.built(NAME))
+
+    def halve(self, whole):
+        """Leaves of a program its first half."""
+        data = whole.read_bytes()
+        self.program.write_bytes(data[:len(data) // 2])
+        self.program.chmod(0o755)
 
     def start(self, *before, **streams):
         streams = {"stdout": subprocess.PIPE, "stderr": subprocess.PIPE, **streams}
@@ -61,7 +72,7 @@ class Checkout:
 
 def copy(source, goal):
     if source.is_dir():
-        shutil.copytree(source, goal, ignore=shutil.ignore_patterns("__pycache__"))
+        shutil.copytree(source, goal, ignore=shutil.ignore_patterns("__pycache__", "out"))
     else:
         shutil.copy2(source, goal)
 
@@ -117,15 +128,21 @@ def together(checkout):
     children = [checkout.start(), checkout.start()]
     waited, built = sorted((finished(child, "two at once") for child in children), key=len)
     steps = re.findall(r"crate (\d+) of (\d+) proved, \d+ s \(about \d+ s in all\)", built)
-    if "another build is at work" not in waited or not steps or [int(k) for k, _ in steps] != list(range(1, int(steps[0][1]) + 1)):
+    count = len(build.crates_of(checkout.top, NAME))
+    at = [int(k) for k, _ in steps]
+    if "another build is at work" not in waited or not steps or at != list(range(at[0], count + 1)) or {of for _, of in steps} != {str(count)}:
         programs.stop(f"two at once: {waited!r}, {built!r}")
     checkout.check_nothing_left("two at once")
 
 
 def broken(checkout):
-    """A program that rt takes for built and that is none: it is built again, before the eyes of somebody at a terminal."""
-    program = checkout.top / "target" / "bin" / NAME
-    program.write_bytes(program.read_bytes()[:5000])
+    """A program that rt takes for built and that is none: it is built again, before the eyes of somebody at a terminal. One that is not what rt linked is not even started."""
+    checkout.halve(checkout.program)
+    said = finished(checkout.start(), "a program that lacks its end")
+    if "building" not in said or "is built again" in said:
+        programs.stop(f"a program that lacks its end: {said!r}")
+    checkout.halve(checkout.program)
+    checkout.stamp.write_text(checkout.stamp.read_text()[:-64] + hashlib.sha256(checkout.program.read_bytes()).hexdigest())
     terminal, screen = pty.openpty()
     child = checkout.start(stderr=screen)
     os.close(screen)
@@ -153,16 +170,33 @@ def refused(checkout):
         programs.stop(f"a source that is refused: status {child.returncode}, {printed!r}, {said!r}")
 
 
+def judged(checkout):
+    """The program as `rt ci` leaves it, with no stamp and with what it printed: it is used as it is. Where that is not what it has to print, it is built."""
+    printed = checkout.program.with_name("stdout")
+    checkout.stamp.unlink()
+    shutil.copy(checkout.program.parent.parent / "stdout", printed)
+    if said := finished(checkout.start(), "a program that rt ci has run"):
+        programs.stop(f"a program that rt ci has run is built once more: {said}")
+    printed.write_bytes(b"lines=0 refused=0\n")
+    if "building" not in finished(checkout.start(), "a program that printed something else"):
+        programs.stop("a program that printed something else under rt ci is not built again")
+
+
 def main():
     began = time.time()
     with tempfile.TemporaryDirectory() as folder:
         checkout = Checkout(folder)
         unwritable(checkout)
+        lowest = checkout.top / LOWEST
+        text = lowest.read_text(encoding="utf-8")
+        lowest.write_text(text + "\n-- Another text: rt takes what a checkout beside this one has built of the same.\n", encoding="utf-8")
         broken_off(checkout, signal.SIGINT, b"crate 1 of")
+        lowest.write_text(text, encoding="utf-8")
         checkout.libraries()
-        broken_off(checkout, signal.SIGTERM, b"crate 3 of")
+        broken_off(checkout, signal.SIGTERM, b"building")
         together(checkout)
         broken(checkout)
+        judged(checkout)
         refused(checkout)
     print(f"building: broken off twice, two at once, mended, a source refused, a checkout that cannot be written; {time.time() - began:.0f} s")
     return 0

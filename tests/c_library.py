@@ -2,8 +2,8 @@
 """Tests the C library as it is installed: `make install` into a temporary folder, and all that follows is built against what is there, by pkg-config.
 
 It sees which symbols the archive and the shared library have, runs c_entry.c (every byte) and c_calls.c (version, NULL, threads, stack) on texts of every
-kind, the first under valgrind too where the machine can, and builds and runs the examples. On Arm it takes Debian's cross compiler for x86-64 and the kit's
-emulator; there programs are static, and the shared library is not loaded, since neither the emulator nor Python finds the x86-64 libraries that it needs.
+kind, the first under valgrind too where the machine can, and builds and runs the examples. On Arm it takes Debian's cross compiler for x86-64 and
+QEMU; there programs are static, and the shared library is not loaded, since neither QEMU nor Python finds the x86-64 libraries that it needs.
 """
 
 import os
@@ -73,7 +73,7 @@ class Installed:
         """How a compiled program is started here: it must find the shared library."""
         if NATIVE:
             return ["env", f"LD_LIBRARY_PATH={self.lib}", str(program)]
-        return [str(programs.kit_tools() / "bin" / "qemu-x86_64"), str(program)]
+        return [*programs.emulator(), str(program)]
 
 
 def symbols(path, *words):

@@ -22,7 +22,7 @@ BEGIN, END = "<!-- cost -->", "<!-- /cost -->"
 def crates():
     """The crates, in the order of crates.txt."""
     lines = (TOP / "crates.txt").read_text(encoding="utf-8").splitlines()
-    return [line.partition(":")[0].strip() for line in lines if line.partition("#")[0].strip()]
+    return [line.split(":")[0].split()[0] for line in lines if line.partition("#")[0].strip()]
 
 
 def count(name):

@@ -28,7 +28,7 @@ def tracked():
     names = subprocess.run(["git", "ls-files", "*.md"], cwd=TOP, capture_output=True, text=True)
     if names.returncode == 0 and names.stdout:
         return [TOP / name for name in names.stdout.splitlines()]
-    return [p for p in TOP.rglob("*.md") if "target" not in p.parts]
+    return [p for p in TOP.rglob("*.md") if not {"target", "out"} & set(p.parts)]
 
 
 def links():
@@ -101,11 +101,21 @@ def promises():
         crate = edit.parts[-3]
         if crate not in WITHOUT_FUNCTIONS and not re.search(rf"[`/]{edit.stem}`", page.read_text()):
             fault(page, f"does not name the edit {crate}/{edit.stem}")
+    known = edits | functions | declared()
     for row in re.findall(r"^\|.*\|$", page.read_text(), re.M):
-        for name in re.findall(r"`(?:\w+/)?([a-z0-9]+(?:_[a-z0-9]+)+)`", row.split("|")[-2]):
-            if name not in edits | functions and not (CRATES / name).exists() and f"fn {name}" not in sources():
-                fault(page, f"names {name}, which is neither an edit nor a function")
+        for name in re.findall(r"`((?:\w+/)?[a-z0-9]+(?:_[a-z0-9]+)+)`", row.split("|")[-2]):
+            crate, slash, edit = name.partition("/")
+            if slash and not (CRATES / crate / "must-fail" / f"{edit}.edit").exists():
+                fault(page, f"names {name}, and the crate has no such edit")
+            elif not slash and name not in known and not (CRATES / name).exists() and f"fn {name}" not in sources():
+                fault(page, f"names {name}, which is no edit, no function, no definition and no theorem")
     return len(functions), len(edit_files)
+
+
+def declared():
+    """The names of our definitions and lemmas, and of the cases and fields of our types."""
+    name = re.compile(r"^ *(?:(?:pub|unfoldable|abbrev) )*(?:record |data )?([^\s(){}]+)(?: \{[^}]*\})* :(?:\s|$)", re.M)
+    return {found for file in CRATES.glob("*/[sp][pr]*/**/*.antt") for found in name.findall(file.read_text())}
 
 
 def sources():

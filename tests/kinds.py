@@ -19,7 +19,7 @@ FIELD = {
     "RoundNo": ("RoundMessage", "RoundMessage { round: x, value: SlotNo(0), world: 0 }"),
 }
 
-HEAD = "// One kind given where one is wanted.\nuse kinds::{BenchNo, RoundMessage, RoundNo, SlotNo, Step};\n"
+HEAD = "// One kind given where one is wanted.\n#![tactic(auto)]\n\nuse kinds::{BenchNo, RoundMessage, RoundNo, SlotNo, Step};\n"
 
 
 def argument(given, wanted):
@@ -49,7 +49,7 @@ def build(folder, name, code):
     source.mkdir(parents=True)
     (source / "lib.rt").write_text(HEAD + code)
     (folder / "crates.txt").write_text(f"kinds:\n{name}: kinds\n")
-    done = subprocess.run(["rt", "dev", name], cwd=folder, stdout=subprocess.PIPE, stderr=subprocess.STDOUT, text=True)
+    done = subprocess.run(["rt", "check"], cwd=source.parent, stdin=subprocess.DEVNULL, stdout=subprocess.PIPE, stderr=subprocess.STDOUT, text=True)
     shutil.rmtree(folder / "crates" / name)
     return done.returncode, done.stdout
 

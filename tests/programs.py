@@ -1,4 +1,4 @@
-"""How tests run the project's programs: the proved ones as the kit runs them, and the second program, built from second/second.c."""
+"""How tests run the project's programs: the proved ones by the kit's loader, and the second program, built from second/second.c."""
 
 import errno
 import os
@@ -55,27 +55,37 @@ def install(command, package):
 
 
 def kit_tools():
-    """The kit's tools for this machine."""
+    """The kit's tools, with the loader and the libraries that its programs are linked with."""
     rt = shutil.which("rt")
     if not rt:
         stop("there is no command 'rt': install the Rattle kit and put its bin/ on PATH")
-    kit = pathlib.Path(os.path.realpath(rt)).parent.parent
-    return kit / "on" / platform.machine() / "toolchain"
+    return pathlib.Path(os.path.realpath(rt)).parent.parent / "toolchain"
+
+
+def emulator():
+    """The words before an x86-64 program: none on x86-64, and QEMU where the machine is another, since the kit has no emulator."""
+    if platform.machine() == "x86_64":
+        return []
+    install("qemu-x86_64", "qemu-user")
+    return [shutil.which("qemu-x86_64")]
 
 
 def started(program):
-    """The words that start an x86-64 program: by the kit's loader, and under its emulator where the machine is another."""
+    """The words that start an x86-64 program: by the kit's loader."""
     tools = kit_tools()
-    words = [str(tools / "lib" / "ld-linux-x86-64.so.2"), "--library-path", str(tools / "lib"), str(program)]
-    emulator = tools / "bin" / "qemu-x86_64"
-    return [str(emulator), *words] if emulator.exists() else words
+    return [*emulator(), str(tools / "lib" / "ld-linux-x86-64.so.2"), "--library-path", str(tools / "lib"), str(program)]
+
+
+def built(name):
+    """Where `rt run` and `rt ci` leave a proved program of this repository."""
+    return TOP / "crates" / name / "out" / name
 
 
 def proved(name):
     """The words that start a proved program of this repository."""
-    program = TOP / "target" / "bin" / name
+    program = built(name)
     if not program.exists():
-        stop(f"{program.relative_to(TOP)} is not built: run 'rt check {name}' first")
+        stop(f"{program.relative_to(TOP)} is not built: run 'rt run' in crates/{name} first")
     return started(program)
 
 

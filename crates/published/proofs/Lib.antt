@@ -15,10 +15,14 @@ pub mod Decisions
 pub mod Window
 pub mod Lists
 pub mod Failures
+pub mod Standing
 pub mod Pause
+pub mod TwoMore
 pub mod Highest
+pub mod HighestKept
 pub mod Reached
 pub mod NoLimit
+pub mod SameRuns
 pub mod Records
 pub mod Starts
 pub mod Refusals

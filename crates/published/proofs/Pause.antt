@@ -1,55 +1,35 @@
 -- Theorem 5.4 of document 000. Let no failed bench have sent a round above r, r being at least 1. Then all messages of round r + 2 are equal: whoever has sent
 -- round r + 1 has not failed, and stands in every world up to there. So a bench that awaits nobody in round r + 2 decides, and none goes on. Assumes nothing.
 use mathlib.Core.Path.{◌≡◌, refl}
-use Prim.Native.Nat.{ℕ, zero, suc, ◌+◌, ◌≤◌}
+use Prim.Native.Nat.{ℕ, suc, ◌+◌, ◌≤◌}
 use mathlib.Core.Bool.{true, false, not}
-use mathlib.Core.List.{List, [], ◌∷◌}
 use native.Mathlib.Omega.{arith}
 use lib.Dec.{eqb}
 use borrow.Author.Tests.{eqb-true, eqb-false, eq-eqb}
-use Rattle.published.specs.Rounds.{Run, Bench, found, heard, running, failed, find, has_out, got, see, agrees, is_awaited, decides, decides_on, settled, settled_on, Step, fail, Answer, refuse, done, step, run_from}
+use Rattle.published.specs.Rounds.{Run, Bench, found, heard, running, failed, find, has_out, got, see, agrees, is_awaited, decides, decides_on, settled, settled_on, Step}
 use Rattle.published.specs.Proposals.{M}
-use Rattle.published.specs.Accepted.{here, later}
-use Rattle.published.specs.Pause.{NoRoundAbove, NoFailDone}
+use Rattle.published.specs.Pause.{NoRoundAbove}
 use Rattle.common.specs.Worlds.{member}
 use Rattle.common.specs.Updates.{put}
 use Rattle.common.proofs.Tests.{split, clash}
 use Rattle.common.proofs.Updates.{put_ind}
 use Rattle.common.specs.Benches.{In}
 use Rattle.common.proofs.Worlds.{every_in_get, every_in_make, Sub, within_make}
-use Rattle.published.proofs.Messages.{never}
 use Rattle.published.proofs.Views.{view_of_ind}
-use Rattle.published.proofs.Moves.{Up, Move, Outcome, refused, moved, step_outcome}
-use Rattle.published.proofs.Invariant.{stays, mute, dead, Base, positive, earlier}
+use Rattle.published.proofs.Moves.{Up, Move}
+use Rattle.published.proofs.Invariant.{Base}
 use Rattle.published.proofs.NextRound.{got_found}
 use Rattle.published.proofs.Changes.{at_start, at_turn, old, new, old_new}
-use Rattle.published.proofs.Effects.{effect, base_move}
-use Rattle.published.proofs.Failures.{fell, stands, fate}
-
--- no failed bench has sent a round above r
-abbrev pub NoneFailedAbove : ℕ → Run → Type 0
-NoneFailedAbove r s = (b q v w : ℕ) → (s b).state ≡ failed → M s b q v w → q ≤ r
+use Rattle.published.proofs.Effects.{effect}
+use Rattle.published.proofs.Standing.{NoneFailedAbove, stands_in}
 
 -- ---- one world, one value
 
 module _ (n : ℕ) (s : Run) (h : Base n s) (r : ℕ) (pos : 1 ≤ r) (fb : NoneFailedAbove r s) where
-  -- a bench that has sent round r + 1 stands in every world up to round r + 2: in the first ones by 5.1, since it has sent round 2
-  stands_in : (j k q v w u y : ℕ) → In n k → M s k (suc r) u y → M s j q v w → q ≤ suc (suc r) → member k w ≡ true
-  stands_in j k zero v w u y hk mk m le = positive n s h j v w m
-  stands_in j k (suc zero) v w u y hk mk m le =
-      let o = earlier n s h k (suc r) 2 u y mk (omega arith) (omega arith) in h.second j k v w o.0 o.1 m o.2
-  stands_in j k (suc (suc q)) v w u y hk mk m le =
-      let c = h.came j q v w m in
-      elim (c.others k hk (stands_in j k (suc q) c.value₀ c.world₀ u y hk mk c.before (omega arith))) [
-        | stays e ↦ e
-        | mute z ↦ let o = earlier n s h k (suc r) (suc q) u y mk (omega arith) (omega arith) in never (find (suc q) (s k).sent) o.0 o.1 z.not_sent o.2
-        | dead f ↦ absurd (omega (arith, fb k (suc r) u y f mk))
-      ]
-
   -- lemma 5.2: all worlds of round r + 2 are one
   same_world : (i j v w v' w' : ℕ) → M s i (suc (suc r)) v w → M s j (suc (suc r)) v' w' → Sub n w w'
   same_world i j v w v' w' m m' k hk mk =
-      let o = (h.came i r v w m).all_heard k hk mk in stands_in j k (suc (suc r)) v' w' o.value_of o.the_world hk o.msg m' (omega arith)
+      let o = (h.came i r v w m).all_heard k hk mk in stands_in n s h r pos fb j k (suc (suc r)) v' w' o.value_of o.the_world hk o.msg m' (omega arith)
 
   -- lemma 5.3: and all values, since the least value is that of a member of both worlds
   value_le : (i j v w v' w' : ℕ) → M s i (suc (suc r)) v w → M s j (suc (suc r)) v' w' → v ≤ v'
@@ -110,33 +90,3 @@ module _ (n : ℕ) (s : Run) (h : Base n s) (a : Step) (b : ℕ) (x : Bench) (mv
 
   pub none_failed_move : Up x.state → NoneFailedAbove r s → NoneFailedAbove r (put s b x)
   none_failed_move u fb d q v w = put_ind (λ y. y.state ≡ failed → find q y.sent ≡ found v w → q ≤ r) s b x d (λ e k m. absurd (u k)) (λ e k m. fb d q v w k m)
-
--- ---- a list of steps
-
-record Late (n r : ℕ) (s : Run) : Type 0 where
-  pub base : Base n s
-  pub fb : NoneFailedAbove r s
-  pub rb : NoRoundAbove (r + 2) s
-
-module _ (n : ℕ) (r : ℕ) (pos : 1 ≤ r) where
-  late_move : (s : Run) → Late n r s → (a : Step) (b : ℕ) (x : Bench) → Move n s a b x → (a ≡ fail b → ⊥) → Late n r (put s b x)
-  late_move s h a b x mv ne = record {
-    base = base_move n s h.base a b x mv;
-    fb = elim (fate n s a b x mv) [ fell e hb f ↦ absurd (ne e) | stands u ↦ none_failed_move n s h.base a b x mv r u h.fb ];
-    rb = none_above_move n s h.base a b x mv (r + 2) (omega arith) (stops n s h.base r pos h.fb h.rb b) h.rb;
-  }
-
-  late_outcome : (s : Run) → Late n r s → (a : Step) (k : Answer) → Outcome n s a k → ((b : ℕ) → a ≡ fail b → k.number ≡ 0 → ⊥) → Late n r k.run
-  unfolding refuse done
-  late_outcome s h a k (refused j f) ne = h
-  late_outcome s h a k (moved b x mv) ne = late_move s h a b x mv (λ e. ne b e refl)
-
-  late_from : (s : Run) → Late n r s → (l : List Step) → NoFailDone n s l → Late n r (run_from n s l)
-  unfolding run_from
-  late_from s h [] nf = h
-  late_from s h (a ∷ l) nf = late_from (step n s a).run
-      (late_outcome s h a (step n s a) (step_outcome n s a) (λ b e z. nf b (rw e (here s l (rw e at z)))))
-      l (λ b g. nf b (later s a l g))
-
-  pub two_more : (s : Run) → Base n s → NoRoundAbove r s → (l : List Step) → NoFailDone n s l → NoRoundAbove (r + 2) (run_from n s l)
-  two_more s h none l nf = (late_from s (record { base = h; fb = λ b q v w k m. none b q v w m; rb = λ b q v w m. omega (arith, none b q v w m) }) l nf).rb

@@ -14,9 +14,10 @@ use Rattle.published.specs.Proposals.{M, Proposed, NotAboveOwn}
 use Rattle.published.specs.Pause.{NoRoundAbove, NoFailDone}
 use Rattle.published.proofs.Messages.{never}
 use Rattle.published.proofs.Decisions.{Inv, cert_now, inv_move, inv_new}
-use Rattle.published.proofs.Highest.{Few, goes_to, few_move, few_new}
+use Rattle.published.proofs.Highest.{Few, goes_to}
+use Rattle.published.proofs.HighestKept.{few_move, few_new}
 use Rattle.published.proofs.Window as window
-use Rattle.published.proofs.Pause as pause
+use Rattle.published.proofs.TwoMore as pause
 
 -- what every step keeps: of decisions, and of how far rounds have come
 record Whole (n : ℕ) (s : Run) : Type 0 where

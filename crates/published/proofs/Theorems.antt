@@ -17,7 +17,7 @@ use Rattle.published.specs.Pause.{NoRoundAbove, NoFailDone}
 use Rattle.published.specs.Limited.{limited_from, limited_answers}
 use Rattle.published.proofs.Reached.{reached_new, reached_run, none_sent, none_higher, decisions_agree, decision_proposed, decision_not_above}
 use Rattle.published.proofs.Reached as reached
-use Rattle.published.proofs.NoLimit.{same_run, same_answers}
+use Rattle.published.proofs.SameRuns.{same_run, same_answers}
 use Rattle.published.proofs.Lists.{run_append}
 use Rattle.published.proofs.Refusals as refusing
 use Rattle.published.proofs.Locality as local

@@ -28,8 +28,10 @@ from_next x l i (suc n) = ap (λ (r : List ℕ). get_or l i 0 ∷ r) (from_next 
 
 behind_nine : (n a₀ a₁ a₂ a₃ a₄ a₅ a₆ a₇ a₈ : ℕ) (l : List ℕ) → from (a₀ ∷ a₁ ∷ a₂ ∷ a₃ ∷ a₄ ∷ a₅ ∷ a₆ ∷ a₇ ∷ a₈ ∷ l) 9 n ≡ from l 0 n
 behind_nine n a₀ a₁ a₂ a₃ a₄ a₅ a₆ a₇ a₈ l =
-    from_next a₀ _ 8 n ∙ from_next a₁ _ 7 n ∙ from_next a₂ _ 6 n ∙ from_next a₃ _ 5 n ∙ from_next a₄ _ 4 n ∙ from_next a₅ _ 3 n
-    ∙ from_next a₆ _ 2 n ∙ from_next a₇ _ 1 n ∙ from_next a₈ l 0 n
+    from_next a₀ (a₁ ∷ a₂ ∷ a₃ ∷ a₄ ∷ a₅ ∷ a₆ ∷ a₇ ∷ a₈ ∷ l) 8 n ∙ from_next a₁ (a₂ ∷ a₃ ∷ a₄ ∷ a₅ ∷ a₆ ∷ a₇ ∷ a₈ ∷ l) 7 n
+    ∙ from_next a₂ (a₃ ∷ a₄ ∷ a₅ ∷ a₆ ∷ a₇ ∷ a₈ ∷ l) 6 n ∙ from_next a₃ (a₄ ∷ a₅ ∷ a₆ ∷ a₇ ∷ a₈ ∷ l) 5 n
+    ∙ from_next a₄ (a₅ ∷ a₆ ∷ a₇ ∷ a₈ ∷ l) 4 n ∙ from_next a₅ (a₆ ∷ a₇ ∷ a₈ ∷ l) 3 n
+    ∙ from_next a₆ (a₇ ∷ a₈ ∷ l) 2 n ∙ from_next a₇ (a₈ ∷ l) 1 n ∙ from_next a₈ l 0 n
 
 -- words that are all 0
 pub zeros : (n k : ℕ) → get_or {A = ℕ} (replicate {A = ℕ} n 0) k 0 ≡ 0

@@ -13,7 +13,7 @@ use Rattle.common.specs.Updates.{put}
 use Rattle.published.specs.Rounds.{done, entering, sending}
 use Rattle.common.proofs.Tests.{split, clash}
 use Rattle.common.proofs.Updates.{put_same, put_other}
-use Rattle.kinds.specs.declared.Message.TheVariants.{Round, Out}
+use Rattle.kinds.specs.declared.Message.TheVariants.{Out}
 use Rattle.bench.specs.declared.Bench.{Bench}
 use Rattle.bench.specs.Changes.{taken_of, out_of, take_of, in_round, sent_to, sent_out}
 use Rattle.kinds.specs.Sizes.{places, depth}
