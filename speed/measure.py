@@ -6,8 +6,8 @@
 Prints two Markdown tables: instructions per line of every text of texts.py, and instructions per byte as texts grow from 1 to 64 KiB. Start-up
 is taken off: what the same program executes on an empty text, or on the lines that a text needs before those that are measured.
 
---quick takes few texts. --programs names a folder with other `run` and `ledger_run` than those in target/bin; a kind of text whose program is
-not there is left out. What it needs and does not find it installs from Debian, by the package's name, and says so.
+--quick takes few texts. --programs names a folder with other `run` and `ledger_run` than those that rt has built in crates/NAME/out; a kind of text whose
+program is not there is left out. What it needs and does not find it installs from Debian, by the package's name, and says so.
 
 All programs are x86-64 and are run by QEMU, on x86-64 and Arm alike, so that the same programs give the same numbers on every machine.
 """
@@ -81,7 +81,7 @@ def counted(folder, words, data):
 class Meter:
     """The programs in a folder, which are started there by the same short words on every machine: their names lie on a program's stack."""
 
-    def __init__(self, folder, proved):
+    def __init__(self, folder, proved=None):
         self.folder = folder
         build_plugin(folder)
         build_c(folder, programs.TOP / "second" / "second.c")
@@ -89,12 +89,13 @@ class Meter:
         (folder / "lib").symlink_to(programs.kit_tools() / "lib")
         self.words = {}
         for kind, name in PROVED.items():
-            if (proved / name).exists():
-                (folder / name).symlink_to((proved / name).resolve())
+            program = proved / name if proved else programs.built(name)
+            if program.exists():
+                (folder / name).symlink_to(program.resolve())
                 loader = ["lib/ld-linux-x86-64.so.2", "--library-path", "lib"]
                 self.words[kind] = [[*loader, f"./{name}"], ["./second", kind], ["./shipped", kind]]
             else:
-                print(f"There is no `{name}` ('rt check {name}' builds it): {kind} texts are left out.\n", flush=True)
+                print(f"There is no `{name}` ('rt run' in crates/{name} builds it): {kind} texts are left out.\n", flush=True)
         if not self.words:
             programs.stop("nothing to measure")
 
@@ -161,10 +162,10 @@ def print_growth(meter, chosen, sizes):
 def main():
     parser = argparse.ArgumentParser(description=__doc__, formatter_class=argparse.RawDescriptionHelpFormatter)
     parser.add_argument("--quick", action="store_true", help="few texts")
-    parser.add_argument("--programs", type=pathlib.Path, default=programs.TOP / "target" / "bin", help="the folder of the proved programs")
+    parser.add_argument("--programs", type=pathlib.Path, help="a folder of other proved programs")
     options = parser.parse_args()
     with tempfile.TemporaryDirectory() as folder:
-        meter = Meter(pathlib.Path(folder), options.programs.resolve())
+        meter = Meter(pathlib.Path(folder), options.programs)
         chosen = [text for text in texts.TEXTS if text.kind in meter.words and (text.name in QUICK_TEXTS or not options.quick)]
         print("Instructions per line, start-up taken off:\n", flush=True)
         print_lines(meter, chosen)

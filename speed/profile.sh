@@ -1,6 +1,6 @@
 #!/usr/bin/env bash
 # profile.sh PROGRAM TEXT [WORD...]: the functions in which PROGRAM spends its instructions on TEXT, as instructions per line of the text.
-# PROGRAM is an x86-64 program, started with the WORDs: target/bin/run, or a C program with `run` or `ledger`. Start-up is not taken off.
+# PROGRAM is an x86-64 program, started with the WORDs: crates/run/out/run, or a C program with `run` or `ledger`. Start-up is not taken off.
 # It counts with Debian's valgrind, on x86-64 only; its processor is this machine's, so the C library's share may differ from measure.py's.
 set -eu
 here=$(cd "$(dirname "$(readlink -f "$0")")" && pwd)

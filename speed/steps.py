@@ -27,21 +27,22 @@ def below(crate):
 
 
 def built(folder):
-    """Proves and builds the program over `rounds`; what the repository has proved already is not proved again."""
+    """Proves and builds the program over `rounds`; a library that the repository has built already is not proved again."""
     shutil.copytree(HERE / "drive", folder / "crates" / "drive")
     for file in list((folder / "crates" / "drive").rglob("*.in")):
         file.rename(file.with_suffix(""))
     lines = below("rounds")
     for crate in lines:
-        shutil.copytree(programs.TOP / "crates" / crate, folder / "crates" / crate)
-    (folder / "crates.txt").write_text("\n".join([*lines.values(), "drive: rounds reads tables kinds io libc"]) + "\n")
-    if (programs.TOP / "target").exists():
-        shutil.copytree(programs.TOP / "target", folder / "target", symlinks=True)
-    ran = subprocess.run(["rt", "check", "drive"], cwd=folder, capture_output=True, text=True, check=False)
+        source, goal = programs.TOP / "crates" / crate, folder / "crates" / crate
+        shutil.copytree(source, goal, ignore=shutil.ignore_patterns("out"))
+        if (source / "out" / "rlib" / "stamp").exists():
+            shutil.copytree(source / "out" / "rlib", goal / "out" / "rlib")
+    (folder / "crates.txt").write_text("\n".join([*lines.values(), "drive: rounds reads tables kinds"]) + "\n")
+    ran = subprocess.run(["rt", "run"], cwd=folder / "crates" / "drive", stdin=subprocess.DEVNULL, capture_output=True, text=True, check=False)
     if ran.returncode:
-        programs.stop(ran.stdout[-2000:])
+        programs.stop(ran.stderr[-2000:])
     (folder / "lib").symlink_to(programs.kit_tools() / "lib")
-    return ["lib/ld-linux-x86-64.so.2", "--library-path", "lib", "target/bin/drive"]
+    return ["lib/ld-linux-x86-64.so.2", "--library-path", "lib", "crates/drive/out/drive"]
 
 
 def main():
