@@ -2,10 +2,6 @@
 use Rattle.ledger_report.proofs.SenderLines.{listed_none, listed_room, listed_more}
 use Rattle.ledger_report.proofs.sender_lines.store_senders.Goals as goal
 
--- TODO no goal for same-length
--- same_length : tie.Need-same-length invariant-loop decreases-loop
--- same_length c = stored_length c.before.loop.invariant.stored
-
 pub loop-k-init : goal.loop-k-init
 loop-k-init c = search listed_none
 
