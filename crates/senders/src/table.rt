@@ -40,6 +40,7 @@ fn lets_go(row: Row, n: SlotNo, after: SlotNo) -> bool
 
 // Has every member of slot n closed it, and every member of slot `after` that? One visit asks of both: it ends at the first sender that
 // holds one of them up, and behind the last that has joined: `rest` is the set from place i on.
+#[tactic(auto, using(crate::proofs::Going::none_left))]
 pub fn all_closed(joined: u32, rows: &RowWords, n: SlotNo, after: SlotNo, size: Size) -> bool
     ensures { result ≡ (all_closed (benches_of size) n.0 (rows_of joined rows.now) && all_closed (benches_of size) after.0 (rows_of joined rows.now)) }
 {

@@ -5,16 +5,13 @@ use mathlib.Core.Path.{refl, ap}
 use mathlib.Core.Bool.{not}
 use Rattle.common.specs.Benches.{every}
 use Rattle.senders.specs.Rows.{row_is}
-use Rattle.senders.proofs.Going.{going_out, going_next, none_left, held_up, all_go}
+use Rattle.senders.proofs.Going.{going_out, going_next, held_up, all_go}
 use Rattle.senders.proofs.table.all_closed.Goals as goal
 use Rattle.senders.proofs.table.all_closed.Goals.{then-rest-eq1+else-not-lets_go, else-rest-eq1}
 
 pub loop-i-init : goal.loop-i-init
 unfolding every
 loop-i-init c = (omega arith, omega arith, refl)
-
-pub returns-then-rest-eq0 : goal.returns-then-rest-eq0
-returns-then-rest-eq0 c = search none_left
 
 pub returns-then-not-lets_go : goal.returns-then-not-lets_go
 returns-then-not-lets_go c = search held_up
