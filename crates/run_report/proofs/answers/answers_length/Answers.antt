@@ -1,6 +1,5 @@
 -- `answers_length`: the sum of the lines so far, and what is left.
 use native.Mathlib.Omega.{arith}
-use Prim.Native.Nat.{◌-◌}
 use Rattle.run_report.proofs.AnswerLines.{measured_more, measured_all}
 use Rattle.reports.proofs.RunLines.{line_short}
 use Rattle.run_report.proofs.answers.answers_length.Goals as goal

@@ -1,11 +1,6 @@
 -- `store_answers`: of all lines, those from here on are still to be stored.
-use Prim.Native.Nat.{◌-◌}
 use Rattle.run_report.proofs.AnswerLines.{storing_room, storing_more, storing_all}
 use Rattle.run_report.proofs.answers.store_answers.Goals as goal
-
--- TODO no goal for same-length
--- same_length : tie.Need-same-length invariant-loop decreases-loop
--- same_length c = c.before.loop.invariant.left.long
 
 pub store_answer_line-at-requires : goal.store_answer_line-at-requires
 store_answer_line-at-requires c = search storing_room

@@ -7,8 +7,8 @@ use Rattle.run_report.proofs.benches.put_value.Goals as goal
 
 pub returns-in-None : goal.returns-in-None
 unfolding value_text decision_is
-returns-in-None c = value_put _ None c.enum_told-1.given.1 c.put_bytes.ensures
+returns-in-None c = value_put _ None c.in-None.is c.put_bytes.ensures
 
 pub returns-in-Chosen : goal.returns-in-Chosen
 unfolding value_text decision_is
-returns-in-Chosen c = value_put _ (Chosen _) c.decision-1.given.1 c.put_number.ensures
+returns-in-Chosen c = value_put _ (Chosen _) c.in-Chosen.is c.put_number.ensures

@@ -7,15 +7,5 @@ returns-then-state-eq-FRESH c = search fresh_stored
 
 pub returns : goal.returns
 returns c =
-    let p₇ = c in
-    let p₆ = p₇.before.before.before.before.before in
-    let p₅ = p₆.before.before.before.before in
-    let p₄ = p₅.before.before.before.before.before in
-    let p₃ = p₄.before.before.before.before.before in
-    let p₂ = p₃.before.before.before.before in
-    let p₁ = p₂.before.before.before.before.before in
-    let d = p₁.before.before.before in
-    let s = d.before in
-    row_stored _ _ _ s.before.before.state-of.ensures _ _ s.sent-of.ensures d.decision-of.ensures s.before.if1.false p₁.put-field.ensures
-    p₂.put-bytes.ensures p₃.put-state-name.ensures p₄.put-field2.ensures p₅.put-bytes2.ensures p₆.put-value.ensures p₇.put-bytes3.ensures
-    s.before.before.before.before.requires
+    row_stored _ _ _ c.state_of-state.ensures _ _ c.sent_of-sent.ensures c.decision_of-decision.ensures c.if-state-eq-FRESH.false c.put_field-a.ensures
+    c.put_bytes-b.ensures c.put_state_name-c.ensures c.put_field-d.ensures c.put_bytes-e.ensures c.put_value-f.ensures c.put_bytes.ensures c.requires

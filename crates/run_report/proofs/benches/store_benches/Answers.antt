@@ -1,12 +1,6 @@
 -- `store_benches`: the lines of the benches so far are stored, and none is longer than 67 bytes.
-use Prim.Native.Nat.{◌-◌}
-use Rattle.spelling.proofs.Stores.{stored_length}
 use Rattle.run_report.proofs.BenchLines.{listed_none, listed_more}
 use Rattle.run_report.proofs.benches.store_benches.Goals as goal
-
--- TODO no goal for same-length
--- same_length : tie.Need-same-length invariant-loop decreases-loop
--- same_length c = stored_length c.before.loop.invariant.stored
 
 pub loop-k-init : goal.loop-k-init
 loop-k-init c = search listed_none

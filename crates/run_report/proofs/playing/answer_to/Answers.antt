@@ -3,9 +3,7 @@ use Rattle.run_report.proofs.Played.{does_links, malformed_links}
 use Rattle.run_report.proofs.playing.answer_to.Goals as goal
 
 pub returns-in-Does : goal.returns-in-Does
-returns-in-Does c =
-    let known = c in
-    does_links _ _ _ known.before.before.requires _ _ known.line.given.1 _ _ _ c.step.ensures
+returns-in-Does c = does_links _ _ _ c.requires _ _ c.in-Does.is _ _ _ c.step.ensures
 
 pub returns-in-Malformed : goal.returns-in-Malformed
-returns-in-Malformed c = malformed_links _ _ _ c.requires _ c.enum_told-1.given.1
+returns-in-Malformed c = malformed_links _ _ _ c.requires _ c.in-Malformed.is

@@ -1,5 +1,4 @@
 -- `refused_in`: the refusals so far are counted, and those from here on are still to be.
-use Prim.Native.Nat.{◌-◌}
 use Rattle.run_report.proofs.TotalsLine.{counted_more, counted_all}
 use Rattle.run_report.proofs.totals.refused_in.Goals as goal
 
