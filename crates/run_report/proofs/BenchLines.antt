@@ -8,7 +8,7 @@ use mathlib.Core.Path.{◌≡◌, refl, sym, ◌∙◌}
 use lib.Dec.{eqb}
 use lib.ListN.{length, length-append}
 use borrow.Author.Tests.{ne_eqb, eq-eqb, le-leb}
-use Rattle.published.specs.Rounds.{Out, failed}
+use Rattle.published.specs.Rounds.{Out}
 use Rattle.common.specs.Benches.{is_bench}
 use Rattle.common.proofs.Tests.{cond_ind}
 use Rattle.kinds.specs.Sizes.{places}

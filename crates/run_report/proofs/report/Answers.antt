@@ -1,0 +1,49 @@
+-- `report` meets its contract: by the parts that stand behind `put_totals`, and by which of the three ways it then goes. Assumes nothing.
+use mathlib.Core.Bool.{not}
+use mathlib.Core.Path.{refl, sym, ap}
+use lib.Seq.{length-take-le}
+use Rattle.tables.specs.Steps.{empty_tables}
+use Rattle.spelling.proofs.Stores.{room_yes, room_not}
+use Rattle.reports.proofs.Settled.{text_long}
+use Rattle.run_report.proofs.Reports.{made, benches_room, lines_few, parts_short, parts_done}
+use borrow.Author.Rules.{rules}
+use Rattle.run_report.proofs.report.Goals as goal
+
+pub returns-then-text-gt-LONGEST : goal.returns-then-text-gt-LONGEST
+returns-then-text-gt-LONGEST c = text_long _ _ _ c.if-text-gt-LONGEST.true
+
+pub play-lines-requires-clause-benches_value : goal.play-lines-requires-clause-benches_value
+unfolding empty_tables
+play-lines-requires-clause-benches_value c = refl
+
+pub play-lines-requires-clause-logs_value : goal.play-lines-requires-clause-logs_value
+unfolding empty_tables
+play-lines-requires-clause-logs_value c = refl
+
+pub store_benches-last-requires : goal.store_benches-last-requires
+store_benches-last-requires c = search (benches_room, rules)
+
+pub room_for-requires : goal.room_for-requires
+room_for-requires c =
+    let p = made c.play-lines.ensures c.store_benches-last.ensures c.refused_in.ensures c.put_totals-n.ensures (search rules) in
+    (lines_few c.play-lines.ensures c.if-text-gt-LONGEST.false, p.short)
+
+pub returns-then-not-room_for : goal.returns-then-not-room_for
+returns-then-not-room_for c =
+    let p = made c.play-lines.ensures c.store_benches-last.ensures c.refused_in.ensures c.put_totals-n.ensures (search rules) in
+    parts_short _ _ _ _ _ _ c.if-text-gt-LONGEST.false p (room_not c.room_for.ensures (ap not c.if-not-room_for.true))
+
+pub slice_bounds-rest-end : goal.slice_bounds-rest-end
+slice_bounds-rest-end c =
+    let p = made c.play-lines.ensures c.store_benches-last.ensures c.refused_in.ensures c.put_totals-n.ensures (search rules) in
+    p.fits
+
+pub slice_bounds-put_bytes-end : goal.slice_bounds-put_bytes-end
+slice_bounds-put_bytes-end c =
+    let p = made c.play-lines.ensures c.store_benches-last.ensures c.refused_in.ensures c.put_totals-n.ensures (search rules) in
+    sym (length-take-le _ _ p.fits)
+
+pub returns : goal.returns
+returns c =
+    let p = made c.play-lines.ensures c.store_benches-last.ensures c.refused_in.ensures c.put_totals-n.ensures (search rules) in
+    parts_done _ _ _ _ _ _ c.if-text-gt-LONGEST.false p (room_yes c.room_for.ensures c.if-not-room_for.false) c.store_answers-at.ensures c.put_bytes.ensures
