@@ -1,53 +1,87 @@
 // The run program: plays the text on standard input and prints its report to standard output. Of a text that is too long it prints the
-// refusal alone. Where the input cannot be read to its end, or the report not be written whole, it says so on standard error; a Rattle
-// program has no exit status, so the command ./funkenrille gives one.
-
+// refusal alone. Where the input cannot be read to its end, or the report not be written whole, it says so on standard error. Its status
+// is 0 even then; the command ./funkenrille gives another.
 #![tactic(auto)]
 
-use libc::{STDERR_FILENO, STDIN_FILENO, STDOUT_FILENO};
+ghost use Rattle.std.specs.Prelude.{◌≡◌, ◌<◌, ◌≤◌, length, take, IfOk, IfSome, IsErrOf, OnOk};
+ghost use Rattle.std.specs.Io.KnownBytes.{Appends, Consumes, IsAtEnd};
+ghost use Rattle.reports.specs.Reported.{longest};
+ghost use Rattle.run.specs.Printed.{printed, report_room};
+
 use reports::{LONGEST, Reported};
 use room::totals::put_refusal;
 use run_report::{ROOM, report};
+use std::io::{Read, Write};
+use std::{fmt, io};
 
 // One byte more than a text may have, to see that it is too long.
 const INPUT: usize = LONGEST + 1;
 
-fn main() {
-    let mut input = [0u8; INPUT];
-    let mut room = [0u8; ROOM];
-    run(&mut input, &mut room);
+// What kept the report from being printed whole.
+#[derive(Clone, Copy)]
+enum Failure {
+    Input,
+    Output,
 }
 
-fn run(input: &mut [u8], room: &mut [u8]) {
-    let n = io::read_full(STDIN_FILENO, input);
-    if n == input.len() || ended() {
-        play(&input[..n], room);
-    }
-}
-
-fn play(text: &[u8], room: &mut [u8]) {
-    match report(text, room) {
-        Reported::Length(length) => written(io::write_all(STDOUT_FILENO, &room[..length])),
-        Reported::Refused(number) => {
-            let end = put_refusal(room, 0, number);
-            written(io::write_all(STDOUT_FILENO, &room[..end]));
+impl fmt::Display for Failure {
+    fn fmt<W: fmt::Write>(&self, f: &mut fmt::Formatter<W>) -> fmt::Result {
+        match self {
+            Failure::Input => write!(f, "standard input cannot be read"),
+            Failure::Output => write!(f, "standard output cannot be written"),
         }
     }
 }
 
-// Whether the input is at its end; it says so where it is not. io::read_full answers a short count at the end and where a read fails, and only
-// at the end does one more read give 0.
-fn ended() -> bool {
-    let mut more = [0u8; 1];
-    if libc::read(STDIN_FILENO, &mut more) == 0 {
-        return true;
+fn main(rt: HostRuntime) {
+    if let Err(failure) = run(&mut rt.stdin(), &mut rt.stdout()) {
+        let _ = eprintln!(rt; "run: {failure}");
     }
-    io::write_all(STDERR_FILENO, b"run: standard input cannot be read\n");
-    false
 }
 
-fn written(whole: bool) {
-    if !whole {
-        io::write_all(STDERR_FILENO, b"run: standard output cannot be written\n");
+// Prints what is to be printed of all that the reader gives. Where it fails, nothing is printed.
+fn run<R: Read, W: Write>(from: &mut R, to: &mut W) -> Result<(), Failure>
+    ensures whole { OnOk result (IfSome (R.remaining from.old)
+        (λ text. Appends (W.contents to.old) (W.contents to.new) (printed text))) }
+    ensures unread { IsErrOf result Failure.Input → to.new ≡ to.old }
+{
+    let mut input = [0u8; INPUT];
+    let mut room = [0u8; ROOM];
+    let Ok(n) = read_full(from, &mut input) else {
+        return Err(Failure::Input);
+    };
+    match play(&input[..n], &mut room, to) {
+        Ok(()) => Ok(()),
+        Err(_) => Err(Failure::Output),
+    }
+}
+
+// Reads until the input is full or the reader is at its end, and answers how many bytes it has got.
+fn read_full<R: Read>(from: &mut R, input: &mut [u8]) -> io::Result<usize>
+    ensures within { IfOk result (λ n. n ≤ length input.new) }
+    ensures bytes { IfOk result (λ n. Consumes (R.remaining from.old) (R.remaining from.new) (take n input.new)) }
+    ensures end { IfOk result (λ n. n < length input.new → IsAtEnd (R.remaining from.new)) }
+{
+    let mut done = 0;
+    while done < input.len() {
+        let n = from.read(&mut input[done..])?;
+        if n == 0 {
+            break;
+        }
+        done += n;
+    }
+    Ok(done)
+}
+
+// Prints what is to be printed of the text, by way of the room.
+fn play<W: Write>(text: &[u8], room: &mut [u8], to: &mut W) -> io::Result<()>
+    ensures { report_room ≤ length room.old → OnOk result (Appends (W.contents to.old) (W.contents to.new) (printed text.now)) }
+{
+    match report(text, room) {
+        Reported::Length(length) => to.write_all(&room[..length]),
+        Reported::Refused(number) => {
+            let end = put_refusal(room, 0, number);
+            to.write_all(&room[..end])
+        }
     }
 }

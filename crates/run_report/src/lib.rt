@@ -54,9 +54,8 @@ pub fn report(text: &[u8], room: &mut [u8]) -> Reported
     Reported::Length(put_bytes(room, at, &rest[..n]))
 }
 
-// The same for C: the report's length, or 0 of a refusal. No report has the length 0.
-#[unsafe(no_mangle)]
-pub extern "C" fn funkenrille_report(text: &[u8], room: &mut [u8]) -> usize
+// The same for C, to which crate run_report_c hands it on: the report's length, or 0 of a refusal. No report has the length 0.
+pub fn report_or_zero(text: &[u8], room: &mut [u8]) -> usize
     ensures value { result ≡ length_for text.now (run_report_of Sixteen text.now) room.old }
     ensures room_after { room.new ≡ room_after text.now (run_report_of Sixteen text.now) room.old }
 {
