@@ -19,7 +19,7 @@ const INPUT: usize = LONGEST + 1;
 
 // What kept the report from being printed whole.
 #[derive(Clone, Copy)]
-enum Failure {
+pub enum Failure {
     Input,
     Output,
 }
@@ -40,7 +40,7 @@ fn main(rt: HostRuntime) {
 }
 
 // Prints what is to be printed of all that the reader gives. Where it fails, nothing is printed.
-fn run<R: Read, W: Write>(from: &mut R, to: &mut W) -> Result<(), Failure>
+pub fn run<R: Read, W: Write>(from: &mut R, to: &mut W) -> Result<(), Failure>
     ensures whole { OnOk result (IfSome (R.remaining from.old)
         (λ text. Appends (W.contents to.old) (W.contents to.new) (printed text))) }
     ensures unread { IsErrOf result Failure.Input → to.new ≡ to.old }

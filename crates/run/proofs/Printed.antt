@@ -20,7 +20,8 @@ use Rattle.reports.specs.Reported.{Reports, number_of, length_of, longest}
 use Rattle.reports.specs.RunReport.{run_report_of}
 use Rattle.reports.proofs.Theorems.{report_stands, run_report_never_empty, room_enough, report_settles}
 use Rattle.reports.proofs.Settled.{text_long}
-use Rattle.run.specs.Printed.{printed, report_room}
+use Rattle.run.specs.Printed.{printed}
+use Rattle.run.specs.Room.{report_room}
 
 -- an array is as long as its type says; stated of any length, since one of the room's length would be computed
 pub as_long : (n b : ℕ) → n ≤ length (replicate n b)

@@ -8,7 +8,3 @@ use Rattle.reports.specs.RunReport.{run_report_of}
 -- the text's report, or the line of refusal 23 where it is too long
 unfoldable pub printed : List ℕ → List ℕ
 printed text = cond (leb (length text) longest) (run_report_of Sixteen text) (refusal_text 23)
-
--- the bytes of a room that holds every report of a text that is not too long: `ROOM` of crate `run_report`
-abbrev pub report_room : ℕ
-report_room = 1365176

@@ -6,7 +6,8 @@
 ghost use Rattle.std.specs.Prelude.{◌≡◌, ◌<◌, ◌≤◌, length, take, IfOk, IfSome, IsErrOf, OnOk};
 ghost use Rattle.std.specs.Io.KnownBytes.{Appends, Consumes, IsAtEnd};
 ghost use Rattle.reports.specs.Reported.{longest};
-ghost use Rattle.run.specs.Printed.{printed, report_room};
+ghost use Rattle.run.specs.Printed.{printed};
+ghost use Rattle.run.specs.Room.{report_room};
 
 use reports::{LONGEST, Reported};
 use room::totals::put_refusal;
@@ -19,7 +20,7 @@ const INPUT: usize = LONGEST + 1;
 
 // What kept the report from being printed whole.
 #[derive(Clone, Copy)]
-enum Failure {
+pub enum Failure {
     Input,
     Output,
 }
@@ -40,7 +41,7 @@ fn main(rt: HostRuntime) {
 }
 
 // Prints what is to be printed of all that the reader gives. Where it fails, nothing is printed.
-fn run<R: Read, W: Write>(from: &mut R, to: &mut W) -> Result<(), Failure>
+pub fn run<R: Read, W: Write>(from: &mut R, to: &mut W) -> Result<(), Failure>
     ensures whole { OnOk result (IfSome (R.remaining from.old)
         (λ text. Appends (W.contents to.old) (W.contents to.new) (printed text))) }
     ensures unread { IsErrOf result Failure.Input → to.new ≡ to.old }
