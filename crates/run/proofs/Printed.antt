@@ -10,6 +10,8 @@ use Rattle.kinds.specs.declared.Size.TheVariants.{Sixteen}
 use Rattle.common.proofs.Tests.{split, clash}
 use Rattle.spelling.specs.Answers.{refusal_text}
 use Rattle.spelling.specs.Stored.{Stored, fitting}
+use Rattle.spelling.proofs.Answers.{refusal_length}
+use Rattle.spelling.proofs.Decimals.{digits_length}
 use Rattle.spelling.proofs.Stores.{fitting_stored}
 use Rattle.spelling.proofs.Puts.{front}
 use Rattle.reports.specs.declared.Reported.{Reported}
@@ -32,8 +34,8 @@ of_long : (text : List ℕ) → longest < length text → printed text ≡ refus
 unfolding printed
 of_long text h = rw (lt-leb (length text) longest h) refl
 
-refusal_short : length (refusal_text 23) ≤ 11
-refusal_short = omega arith
+refusal_short : (k : ℕ) → length (refusal_text k) ≤ 19
+refusal_short k = omega (arith, refusal_length k, (digits_length k).1)
 
 -- a text of which one byte more than the longest was read is too long, and of any other all was read
 pub printed_read : (whole text rest : List ℕ) → whole ≡ text ++ rest → (length text ≤ longest → rest ≡ []) → printed text ≡ printed whole
@@ -82,5 +84,6 @@ module _ {text room a : List ℕ} {r : Reported} (enough : report_room ≤ lengt
       let long = leb-false (length text) longest h in
       let q = answer_long long in
       let is_23 : k ≡ 23 = sym (ap number_of e) ∙ ap number_of q.0 in
-      let fits : 0 + length (refusal_text 23) ≤ length a = omega (arith, ap length q.1, refusal_short) in
-      front (refusal_text 23) fits (fitting_stored a 0 (refusal_text 23) fits (subst (λ n. Stored a 0 (fitting a 0 (refusal_text n)) next a') is_23 s)) ∙ sym (of_long text long))
+      let fits : 0 + length (refusal_text 23) ≤ length a = omega (arith, ap length q.1, refusal_short 23) in
+      let inside : length (refusal_text 23) ≤ length a = omega (arith, fits) in
+      front (refusal_text 23) inside (fitting_stored a 0 (refusal_text 23) fits (subst (λ n. Stored a 0 (fitting a 0 (refusal_text n)) next a') is_23 s)) ∙ sym (of_long text long))

@@ -14,11 +14,11 @@ use Rattle.spelling.proofs.Puts.{Put, put_last, front}
 use Rattle.reports.specs.declared.Reported.TheVariants.{Length, Refused}
 use Rattle.spelling.specs.Answers.{totals}
 use Rattle.reports.specs.RunReport.{answer_lines, refused_in, totals_of, run_report_for, run_report_of}
-use Rattle.reports.specs.Reported.{Reports, longest}
+use Rattle.reports.specs.Reported.{Reports, longest, number_of, length_of, number_for, length_for, room_after}
 use Rattle.run_report.specs.Parts.{Played, row_lines}
 use Rattle.run_report.proofs.BenchLines.{row_lines_lem, rows_short}
 use Rattle.reports.proofs.RunLines.{totals_of_short}
-use Rattle.reports.proofs.Settled.{room_short, report_done}
+use Rattle.reports.proofs.Settled.{text_long, room_short, report_done}
 use Rattle.run_report.proofs.TotalsLine.{totals_stored}
 
 -- ---- the parts
@@ -61,6 +61,17 @@ made {z} {text} {answers} {rest₀} {t = t} {l} {n} {m = m} p s₁ er s₂ h =
     }
 
 -- ---- the answer and the room
+
+-- 23, in its parts
+module _ (text report room : List ℕ) (h : longest < length text) where
+  pub long_number : number_for text report room ≡ number_of (Refused 23)
+  long_number = sym ((text_long text report room h).number)
+
+  pub long_length : length_for text report room ≡ length_of (Refused 23)
+  long_length = sym ((text_long text report room h).bytes)
+
+  pub long_room : room_after text report room ≡ room
+  long_room = sym ((text_long text report room h).held)
 
 module _ (z : Size) (text room answers rest : List ℕ) (m : ℕ) (h : length text ≤ longest) (p : Made z text answers rest m) where
   whole_length : length (run_report_of z text) ≡ length (answer_lines 1 answers) + m

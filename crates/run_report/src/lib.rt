@@ -32,6 +32,7 @@ const REST: usize = 67 * PLACES + 36;
 
 // Plays the text and writes its report to the front of the room. A refusal leaves the room as it was, and so does the report all
 // that stands behind it.
+#[tactic(auto, using(crate::proofs::Reports::long_number, crate::proofs::Reports::long_length, crate::proofs::Reports::long_room))]
 pub fn report(text: &[u8], room: &mut [u8]) -> Reported
     ensures { Reports text.now (run_report_of Sixteen text.now) room.old result room.new }
 {

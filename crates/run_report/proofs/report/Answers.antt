@@ -4,13 +4,9 @@ use mathlib.Core.Path.{refl, sym, ap}
 use lib.Seq.{length-take-le}
 use Rattle.tables.specs.Steps.{empty_tables}
 use Rattle.spelling.proofs.Stores.{room_yes, room_not}
-use Rattle.reports.proofs.Settled.{text_long}
 use Rattle.run_report.proofs.Reports.{made, benches_room, lines_few, parts_short, parts_done}
 use borrow.Author.Rules.{rules}
 use Rattle.run_report.proofs.report.Goals as goal
-
-pub returns-then-text-gt-LONGEST : goal.returns-then-text-gt-LONGEST
-returns-then-text-gt-LONGEST c = text_long _ _ _ c.if-text-gt-LONGEST.true
 
 pub play-lines-requires-clause-benches_value : goal.play-lines-requires-clause-benches_value
 unfolding empty_tables
@@ -26,12 +22,12 @@ store_benches-last-requires c = search (benches_room, rules)
 pub room_for-requires : goal.room_for-requires
 room_for-requires c =
     let p = made c.play-lines.ensures c.store_benches-last.ensures c.refused_in.ensures c.put_totals-n.ensures (search rules) in
-    (lines_few c.play-lines.ensures c.if-text-gt-LONGEST.false, p.short)
+    (lines_few c.play-lines.ensures (search rules), p.short)
 
 pub returns-then-not-room_for : goal.returns-then-not-room_for
 returns-then-not-room_for c =
     let p = made c.play-lines.ensures c.store_benches-last.ensures c.refused_in.ensures c.put_totals-n.ensures (search rules) in
-    parts_short _ _ _ _ _ _ c.if-text-gt-LONGEST.false p (room_not c.room_for.ensures (ap not c.if-not-room_for.true))
+    parts_short _ _ _ _ _ _ (search rules) p (room_not c.room_for.ensures (ap not c.if-not-room_for.true))
 
 pub slice_bounds-rest-end : goal.slice_bounds-rest-end
 slice_bounds-rest-end c =
@@ -46,4 +42,4 @@ slice_bounds-put_bytes-end c =
 pub returns : goal.returns
 returns c =
     let p = made c.play-lines.ensures c.store_benches-last.ensures c.refused_in.ensures c.put_totals-n.ensures (search rules) in
-    parts_done _ _ _ _ _ _ c.if-text-gt-LONGEST.false p (room_yes c.room_for.ensures c.if-not-room_for.false) c.store_answers-at.ensures c.put_bytes.ensures
+    parts_done _ _ _ _ _ _ (search rules) p (room_yes c.room_for.ensures c.if-not-room_for.false) c.store_answers-at.ensures c.put_bytes.ensures
