@@ -1,6 +1,6 @@
 """Runs a proved program on a text and sees that its report is whole.
 
-A Rattle program has no exit status, so the report itself has to tell: it must end in a line of totals that counts every line of the text.
+The proved programs' status is always 0, so the report itself has to tell: it must end in a line of totals that counts every line of the text.
 """
 
 import os

@@ -1,7 +1,7 @@
 #!/usr/bin/env python3
 """The list of what must be believed is closed: docs/THEOREMS.md lists just the definition files that its theorems and the public promises rest on.
 
-Of every theorem of docs/THEOREMS.md (but for the sections that only serve other proofs) the statement is taken, of every public function its promise, and each
+Of every theorem of docs/THEOREMS.md (but for the sections that only serve other proofs) the statement is taken, of every public function and of the programs the promise, and each
 name in them is followed to its definition, and from there on, as far as our own files go. Each file that is reached must be listed there: under 'What must be
 believed', with its lines and the reason why it is believed, or under 'Settled by theorems', with the theorems that say in believed words all that counts of it. A
 file that is listed and not reached is a fault; so is a definition that a theorem is stated by and that stands in a proof, and a public function that asks something of its caller.
@@ -152,27 +152,43 @@ def theorems():
     return goals, count
 
 
-def clauses(head):
-    """The texts of a function's clauses, `ensures { .. }` and `ensures NAME { .. }`, to the brace that ends each."""
-    for found in re.finditer(r"^ *(?:requires|ensures)\b[^{\n]*\{", head, re.M):
-        depth, at = 1, found.end()
-        while depth:
-            depth += {"{": 1, "}": -1}.get(head[at], 0)
-            at += 1
-        yield head[found.end():at - 1]
+def closed(text, at):
+    """The place behind the brace that closes the one before the place."""
+    depth = 1
+    while depth:
+        depth += {"{": 1, "}": -1}.get(text[at], 0)
+        at += 1
+    return at
+
+
+def functions(text):
+    """The functions of a source: what stands before `fn`, the name, whether something is asked of the caller, and what the clauses say."""
+    for found in re.finditer(r"^ *((?:pub(?:\(crate\))? )?)(?:extern \"C\" )?fn (\w+)", text, re.M):
+        asks, said, at = False, [], found.end()
+        while True:
+            brace = text.index("{", at)
+            clause = re.match(r"\s*(requires|ensures)\b", text[text.rfind("\n", 0, brace) + 1:brace])
+            if not clause:
+                break
+            at = closed(text, brace + 1)
+            asks = asks or clause[1] == "requires"
+            said.append(text[brace + 1:at - 1])
+        yield found[1].strip(), found[2], asks, " ".join(said)
 
 
 def promises():
-    """What the promises of public functions name, each with the function."""
+    """What the promises of public functions name, each with the function; and those of every function of a program, which has no public one."""
     goals, count = [], 0
     for source in sorted(CRATES.glob("*/src/*.rt")):
         text = source.read_text()
         names, modules = scope(text, "ghost use")
-        for name, head in re.findall(r"^ *pub (?:extern \"C\" )?fn (\w+)(.*?)^ *\{$", text, re.M | re.S):
+        for public, name, asks, said in functions(text):
+            if public != "pub" and not (source.name == "main.rt" and said):
+                continue
             count += 1
-            if re.search(r"^ *requires\b", head, re.M):
+            if public and asks:
                 fault(source, f"the public function {name} asks something of its caller")
-            for token in re.findall(rf"{NAME}(?:\.{NAME})?", " ".join(clauses(head))):
+            for token in re.findall(rf"{NAME}(?:\.{NAME})?", said):
                 alias, _, rest = token.partition(".")
                 if token in names or alias in names:
                     goals.append((*names.get(token, names.get(alias)), [f"{source.parent.parent.name}::{name}"]))

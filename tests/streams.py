@@ -1,8 +1,8 @@
 #!/usr/bin/env python3
 """Nothing is lost in silence: the command, and the programs by themselves, where something cannot be read or written.
 
-Of the command the status and the message are held to what docs/COMMAND.md says; of the programs the message alone, since a Rattle program
-has no status. What is on standard output is in every case nothing, or the start of the true report.
+Of the command the status and the message are held to what docs/COMMAND.md says; of the programs the message alone, since their
+status is always 0. What is on standard output is in every case nothing, or the start of the true report.
 """
 
 import fcntl
