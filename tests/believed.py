@@ -1,7 +1,7 @@
 #!/usr/bin/env python3
 """The list of what must be believed is closed: docs/THEOREMS.md lists just the definition files that its theorems and the public promises rest on.
 
-Of every theorem of docs/THEOREMS.md (but for the sections that only serve other proofs) the statement is taken, of every public function and of the programs the promise, and each
+Of every theorem of docs/THEOREMS.md (but for the sections that only serve other proofs) the statement is taken, of every public function its promise, and each
 name in them is followed to its definition, and from there on, as far as our own files go. Each file that is reached must be listed there: under 'What must be
 believed', with its lines and the reason why it is believed, or under 'Settled by theorems', with the theorems that say in believed words all that counts of it. A
 file that is listed and not reached is a fault; so is a definition that a theorem is stated by and that stands in a proof, and a public function that asks something of its caller.
@@ -177,16 +177,16 @@ def functions(text):
 
 
 def promises():
-    """What the promises of public functions name, each with the function; and those of every function of a program, which has no public one."""
+    """What the promises of public functions name, each with the function."""
     goals, count = [], 0
     for source in sorted(CRATES.glob("*/src/*.rt")):
         text = source.read_text()
         names, modules = scope(text, "ghost use")
         for public, name, asks, said in functions(text):
-            if public != "pub" and not (source.name == "main.rt" and said):
+            if public != "pub":
                 continue
             count += 1
-            if public and asks:
+            if asks:
                 fault(source, f"the public function {name} asks something of its caller")
             for token in re.findall(rf"{NAME}(?:\.{NAME})?", said):
                 alias, _, rest = token.partition(".")
