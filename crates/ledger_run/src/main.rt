@@ -39,7 +39,7 @@ fn main(rt: HostRuntime) {
     }
 }
 
-// Prints what is to be printed of all that the reader gives. Where it fails, nothing is printed.
+// Prints what is to be printed of all that the reader gives. Where the input cannot be read, nothing is printed.
 pub fn run<R: Read, W: Write>(from: &mut R, to: &mut W) -> Result<(), Failure>
     ensures whole { OnOk result (IfSome (R.remaining from.old)
         (λ text. Appends (W.contents to.old) (W.contents to.new) (printed text))) }

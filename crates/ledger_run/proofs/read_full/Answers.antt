@@ -12,8 +12,8 @@ take_split a b old new h front =
     let same : a + (b - a) ≡ b = omega arith in
     ap (λ l. l ++ slice_range new a b) (sym front) ∙ sym (take-add a (b - a) new) ∙ ap (λ n. take n new) same
 
-slice_range-put_mid : (a k n : ℕ) (xs ys : List ℕ) → a ≤ length xs → n ≤ length ys → slice_range (put_mid a k xs ys) a (a + n) ≡ take n ys
-slice_range-put_mid a k n xs ys within fits =
+slice_range_put_mid : (a k n : ℕ) (xs ys : List ℕ) → a ≤ length xs → n ≤ length ys → slice_range (put_mid a k xs ys) a (a + n) ≡ take n ys
+slice_range_put_mid a k n xs ys within fits =
     let same : (a + n) - a ≡ n = omega arith in
     let after = post_of a k xs in
     ap (take ((a + n) - a)) (drop_at (take a xs) (ys ++ after) a (length-take-le a xs within)) ∙ ap (λ m. take m (ys ++ after)) same ∙ take-append-le n ys after fits
@@ -23,6 +23,6 @@ loop-done-preserved g c =
     let from = c.loop-done.done in
     let room = length c.loop-done.input - from in
     let within = c.loop-done.invariant.1 in
-    let part = slice_range-put_mid from room c.in_ok-n.n c.loop-done.input c.read.new.buf within c.in_ok-n.ensures.bound.0 in
+    let part = slice_range_put_mid from room c.in_ok-n.n c.loop-done.input c.read.new.buf within c.in_ok-n.ensures.bound.0 in
     let joined = take_split from (from + c.in_ok-n.n) c.loop-done.input (put_mid from room c.loop-done.input c.read.new.buf) (omega arith) (take-put_mid_below _ _ _ _ _ (le_refl _) within) in
     (search rules, search rules, subst (Consumes _ _) (ap (λ l. take from c.loop-done.input ++ l) (sym part) ∙ joined) (Consumes-trans _ _ _ _ _ c.loop-done.invariant.2 c.in_ok-n.ensures.bytes.0))

@@ -8,8 +8,8 @@ use Rattle.reports.proofs.Theorems.{report_inside}
 use Rattle.run.proofs.Printed.{report_printed, refusal_printed}
 use Rattle.run.proofs.play.Goals as goal
 
-end-inside : {l l' : List ℕ} {next : ℕ} (w : List ℕ) → Put l 0 w next l' → next ≤ length l'
-end-inside w p = put_inside w p (omega arith)
+end_inside : {l l' : List ℕ} {next : ℕ} (w : List ℕ) → Put l 0 w next l' → next ≤ length l'
+end_inside w p = put_inside w p (omega arith)
 
 pub slice_bounds-write_all-end : goal.slice_bounds-write_all-end
 slice_bounds-write_all-end g c = report_inside c.report.ensures _ c.in-Length.is
@@ -18,10 +18,10 @@ pub slice_bounds-write_all-end-in-Length : goal.slice_bounds-write_all-end-in-Le
 slice_bounds-write_all-end-in-Length g c = sym (length-take-le _ _ (report_inside c.report.ensures _ c.in-Length.is))
 
 pub slice_bounds-write_all-end-in-Refused : goal.slice_bounds-write_all-end-in-Refused
-slice_bounds-write_all-end-in-Refused g c = end-inside _ c.put_refusal-end.ensures
+slice_bounds-write_all-end-in-Refused g c = end_inside _ c.put_refusal-end.ensures
 
 pub slice_bounds-write_all-end-in-Refused-2 : goal.slice_bounds-write_all-end-in-Refused-2
-slice_bounds-write_all-end-in-Refused-2 g c = sym (length-take-le _ _ (end-inside _ c.put_refusal-end.ensures))
+slice_bounds-write_all-end-in-Refused-2 g c = sym (length-take-le _ _ (end_inside _ c.put_refusal-end.ensures))
 
 pub returns-in-Length : goal.returns-in-Length
 returns-in-Length g c enough = subst (λ w. OnOk c.write_all.result (Appends (g.W.Write.contents c.args.to.now) (g.W.Write.contents c.write_all.new.self) w)) (report_printed enough c.report.ensures _ c.in-Length.is) c.write_all.ensures.bytes
