@@ -16,7 +16,7 @@ from pathlib import Path
 from status import NOT_BUILT, Failure
 from streams import MESSAGES, say, tell, why
 
-EXPECTED = {"run": 200, "ledger_run": 130}  # seconds of a first build on two idle cores
+EXPECTED = {"run": 240, "ledger_run": 190}  # seconds of a first build on two cores, with nothing built before
 SHOWN = 20  # lines of what rt said, where it could not build
 SOURCES = ("src", "specs", "proofs")  # what a program is made from, in each crate
 
