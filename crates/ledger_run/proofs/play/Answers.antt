@@ -4,8 +4,11 @@ use lib.Seq.{length-take-le}
 use Rattle.std.specs.Prelude.{OnOk}
 use Rattle.std.specs.Io.KnownBytes.{Appends}
 use Rattle.spelling.proofs.Puts.{Put, put_inside}
-use Rattle.reports.proofs.Theorems.{report_inside}
-use Rattle.ledger_run.proofs.Printed.{report_printed, refusal_printed}
+use Rattle.kinds.specs.declared.Size.TheVariants.{Sixteen}
+use Rattle.reports.specs.LedgerReport.{ledger_report_of}
+use Rattle.reports.proofs.Theorems.{report_inside, ledger_report_never_empty, ledger_report_length_bound}
+use Rattle.reports.proofs.Settled.{room_enough}
+use Rattle.printing.proofs.Printed.{report_printed, refusal_printed}
 use Rattle.ledger_run.proofs.play.Goals as goal
 
 end_inside : {l l' : List ℕ} {next : ℕ} (w : List ℕ) → Put l 0 w next l' → next ≤ length l'
@@ -24,7 +27,7 @@ pub slice_bounds-write_all-end-in-Refused : goal.slice_bounds-write_all-end-in-R
 slice_bounds-write_all-end-in-Refused g c = sym (length-take-le _ _ (end_inside _ c.put_refusal-end.ensures))
 
 pub returns-in-Length : goal.returns-in-Length
-returns-in-Length g c = subst (λ w. OnOk c.write_all.result (Appends (g.W.Write.contents c.args.to.now) (g.W.Write.contents c.write_all.new.self) w)) (report_printed (omega arith) c.report.ensures _ c.in-Length.is) c.write_all.ensures.bytes
+returns-in-Length g c = subst (λ w. OnOk c.write_all.result (Appends (g.W.Write.contents c.args.to.now) (g.W.Write.contents c.write_all.new.self) w)) (report_printed (ledger_report_of Sixteen) (ledger_report_never_empty Sixteen) (λ h. room_enough c.args.text.now (ledger_report_of Sixteen c.args.text.now) c.args.room.now h (omega (arith, ledger_report_length_bound c.args.text.now h))) c.report.ensures _ c.in-Length.is) c.write_all.ensures.bytes
 
 pub returns-in-Refused : goal.returns-in-Refused
-returns-in-Refused g c = subst (λ w. OnOk c.write_all-in-Refused.result (Appends (g.W.Write.contents c.args.to.now) (g.W.Write.contents c.write_all-in-Refused.new.self) w)) (refusal_printed (omega arith) c.report.ensures _ c.in-Refused.is c.put_refusal-end.ensures) c.write_all-in-Refused.ensures.bytes
+returns-in-Refused g c = subst (λ w. OnOk c.write_all-in-Refused.result (Appends (g.W.Write.contents c.args.to.now) (g.W.Write.contents c.write_all-in-Refused.new.self) w)) (refusal_printed (ledger_report_of Sixteen) (ledger_report_never_empty Sixteen) (λ h. room_enough c.args.text.now (ledger_report_of Sixteen c.args.text.now) c.args.room.now h (omega (arith, ledger_report_length_bound c.args.text.now h))) c.report.ensures (omega arith) _ c.in-Refused.is c.put_refusal-end.ensures) c.write_all-in-Refused.ensures.bytes
