@@ -43,7 +43,7 @@ class Checkout:
         """Gives it the libraries, and a program that is half written: rt leaves no stamp of such a one."""
         for crate in build.crates_of(self.top, NAME)[:-1]:
             if not (build.made(programs.TOP, crate) / "rlib" / "stamp").exists():
-                programs.stop(f"crates/{crate}/out/rlib is not built: run 'rt lib' in crates/run_report_c first")
+                programs.stop(f"crates/{crate}/out/rlib is not built: run 'rt lib' in crates/{crate} first")
             copy(build.made(programs.TOP, crate) / "rlib", build.made(self.top, crate) / "rlib")
         self.program.parent.mkdir()
         self.halve(programs.built(NAME))
