@@ -1,11 +1,13 @@
 -- A number's digits are those that std writes, and how many there are. Assumes nothing.
-use Rattle.std.proofs.Common.{◌≡◌, ℕ, zero, suc, ◌+◌, ◌/◌, ◌%◌, ◌^◌, ◌<◌, ◌≤◌, List, [], ◌∷◌, ◌++◌, length, take, drop, refl, ap, sym, ◌∙◌, arith, cond, leb, Bool, true, false, length-append}
+use Rattle.std.proofs.Common.{◌≡◌, ℕ, ◌+◌, ◌%◌, ◌^◌, ◌<◌, ◌≤◌, List, [], ◌∷◌, ◌++◌, length, take, drop, refl, sym, ◌∙◌, arith, cond, leb, Bool, true, ◌&&◌, length-append}
 use Rattle.std.specs.Fmt.{decimal}
-use Rattle.std.specs.List.{count_by}
+use Rattle.std.specs.List.{prefix_len}
 use Rattle.std.proofs.lemmas.Fmt.{decimal_by_steps}
-use Rattle.std.proofs.lemmas.List.Recursion.{is_count_by}
+use borrow.Author.Tests.{leb-true, leb-false, lt-leb}
+use Rattle.common.proofs.Tests.{both, split}
 use Rattle.spelling.specs.Numbers.{digits, leads}
 use Rattle.spelling.specs.Stored.{Stored}
+use Rattle.room.specs.declared.decimal.TheConstants.{POWERS}
 use Rattle.spelling.specs.Storing.{places}
 use Rattle.spelling.proofs.Decimals.{digits_small, digits_large}
 use Rattle.room.proofs.Cuts.{stored_from}
@@ -13,7 +15,7 @@ use Rattle.room.proofs.Cuts.{stored_from}
 digits_decimal : (n : ℕ) → n < 2 ^ 32 → digits n ≡ decimal n
 digits_decimal n t =
     decimal_by_steps (λ m ds. m < 10000000000 → digits m ≡ ds) (λ m h _. digits_small m h)
-        (λ m ds h ih u. digits_large m h u ∙ rw (ih (omega arith)) refl) n (omega arith) (omega arith)
+    (λ m ds h ih u. digits_large m h u ∙ rw (ih (omega arith)) refl) n (omega arith) (omega arith)
 
 -- what `write_digits` asks for and leaves, where the digits of n are k and m is n
 module _ (l : List ℕ) (at n m k : ℕ) (t : n < 2 ^ 32) (same : m ≡ n) (long : k ≡ length (digits n)) (inside : at + length (digits n) ≤ length l) where
@@ -29,14 +31,43 @@ module _ (l : List ℕ) (at n m k : ℕ) (t : n < 2 ^ 32) (same : m ≡ n) (long
       let end : at + k ≡ at + length (digits n) = omega arith in
       rw end (stored_from l at (digits n) inside l' (rw first at before) (rw (first, is_decimal, end) at written))
 
-digit_count : (b : Bool) (d n : ℕ) (ds : List ℕ) → length (cond b (d ∷ ds) ds) ≡ cond b (1 + length ds) (length ds)
-digit_count true d n ds = omega arith
-digit_count false d n ds = refl
+-- ---- how many digits: one, and one at each place that n reaches
 
-leads_count : (ps : List ℕ) (n : ℕ) → length (leads ps n) ≡ count_by (λ p. leb p n) ps
-unfolding leads
-leads_count ps n = is_count_by (λ qs. length (leads qs n)) (λ p. leb p n) refl (λ p qs. digit_count (leb p n) (48 + n / p % 10) n (leads qs n)) ps
+reached : ℕ → List ℕ → ℕ
+reached n [] = 0
+reached n (p ∷ ps) = cond (leb p n) 1 0 + reached n ps
 
-pub digits_count : (n : ℕ) → 1 + count_by (λ p. leb p n) places ≡ length (digits n)
-unfolding digits
-digits_count n = omega (arith, leads_count places n, length-append (leads places n) ((48 + n % 10) ∷ []))
+leads_reached : (ps : List ℕ) (n : ℕ) → length (leads ps n) ≡ reached n ps
+unfolding leads reached
+leads_reached [] n = refl
+leads_reached (p ∷ ps) n = split (leb p n) (λ e. rw e (omega (arith, leads_reached ps n))) (λ e. rw e (omega (arith, leads_reached ps n)))
+
+-- none falls
+rises : ℕ → List ℕ → Bool
+rises m [] = true
+rises m (p ∷ ps) = leb m p && rises p ps
+
+none_reached : (ps : List ℕ) (m n : ℕ) → rises m ps ≡ true → n < m → reached n ps ≡ 0
+unfolding reached rises
+none_reached [] m n up h = refl
+none_reached (p ∷ ps) m n up h =
+    let b = both (leb m p) (rises p ps) up in
+    let below : n < p = omega (arith, leb-true m p b.0) in
+    rw (lt-leb p n below) (omega (arith, none_reached ps p n b.1 below))
+
+front_reached : (ps : List ℕ) (m n : ℕ) → rises m ps ≡ true → prefix_len (λ p. leb p n) ps ≡ reached n ps
+unfolding reached rises
+front_reached [] m n up = refl
+front_reached (p ∷ ps) m n up =
+    let b = both (leb m p) (rises p ps) up in
+    split (leb p n) (λ e. rw e (omega (arith, front_reached ps p n b.1)))
+    (λ e. rw e (omega (arith, none_reached ps p n b.1 (leb-false p n e))))
+
+same_reached : (n : ℕ) → reached n POWERS ≡ reached n places
+unfolding reached
+same_reached n = omega arith
+
+pub digits_reached : (n k : ℕ) → k ≡ prefix_len (λ p. leb p n) POWERS → 1 + k ≡ length (digits n)
+unfolding digits rises
+digits_reached n k e =
+    omega (arith, front_reached POWERS 0 n refl, same_reached n, leads_reached places n, length-append (leads places n) ((48 + n % 10) ∷ []))

@@ -11,8 +11,7 @@ use kinds::AnswerNo;
 fn has_room_for_answer(room: &[u8], at: usize, line: u32, answer: u32) -> bool
     ensures { result ≡ leb (at + length (answer_text line answer)) (length room.now) }
 {
-    has_room(room, at, 33)
-        || has_room(room, at, 13 + number_length(line) + number_length(answer))
+    has_room(room, at, 33) || has_room(room, at, 13 + number_length(line) + number_length(answer))
 }
 
 // Stores both from a place on, where the room holds them, and answers the place behind them. Else the room is as it was, and the

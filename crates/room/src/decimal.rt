@@ -1,15 +1,14 @@
 // Numbers written: any u32 in decimal.
-ghost use Rattle.std.specs.Prelude.{◌≡◌, ◌++◌, ◌+◌, ◌≤◌, leb, length, count_by};
+ghost use Rattle.std.specs.Prelude.{◌≡◌, ◌++◌, ◌+◌, ◌≤◌, leb, length};
+ghost use Rattle.std.specs.List.{prefix_len};
 ghost use Rattle.spelling.specs.Numbers.{digits};
-ghost use Rattle.spelling.specs.Storing.{places};
 ghost use Rattle.spelling.specs.Stored.{Stored, fitting};
 
 use crate::bytes::{has_room, store_bytes};
 use itoa::write_digits;
 
-// The powers of ten that a u32 can reach.
 const POWERS: [u32; 9] = [
-    1000000000, 100000000, 10000000, 1000000, 100000, 10000, 1000, 100, 10,
+    10, 100, 1000, 10000, 100000, 1000000, 10000000, 100000000, 1000000000,
 ];
 
 // How many digits a number has: one, and one more for each power of ten that it reaches.
@@ -20,22 +19,27 @@ pub fn number_length(n: u32) -> usize
 }
 
 fn powers_reached(n: u32) -> usize
-    ensures { result ≡ count_by (λ power. leb power n) places }
+    ensures { result ≡ prefix_len (λ power. leb power n) POWERS }
 {
-    POWERS.iter().filter(|power| **power <= n).count()
+    POWERS.iter().take_while(|power| **power <= n).count()
 }
 
-// Stores n in decimal.
+// Stores n in decimal. Most numbers of a text have one digit.
 pub(crate) fn store_number(room: &mut [u8], at: usize, n: u32) -> usize
     requires { at + length (digits n) ≤ length room.old }
     ensures { Stored room.old at (digits n) result room.new }
 {
+    if n < 10 {
+        room[at] = b'0' + n as u8;
+        return at + 1;
+    }
     let end = at + number_length(n);
     write_digits(u64::from(n), room, end);
     end
 }
 
-// Stores a key and a number behind it.
+// Stores a key and a number behind it. Where it is called the key is a constant: as part of its caller it stores words, and calls no memcpy.
+#[inline(always)]
 pub(crate) fn store_field(room: &mut [u8], at: usize, key: &[u8], n: u32) -> usize
     requires { at + length (key.now ++ digits n) ≤ length room.old }
     ensures { Stored room.old at (key.now ++ digits n) result room.new }
