@@ -1,3 +1,4 @@
+-- `has_room_for_answer` meets its contract. Where 33 bytes are left there is room for both. Assumes nothing.
 use Rattle.std.proofs.Common.{◌∙◌, sym, arith}
 use borrow.Author.Tests.{le-leb}
 use Rattle.spelling.proofs.Decimals.{digits_length, number_short}

@@ -1,3 +1,4 @@
+-- `has_room_for_field` meets its contract. Where the key and 10 bytes more are left there is room for both. Assumes nothing.
 use Rattle.std.proofs.Common.{◌∙◌, sym, arith, length-append}
 use borrow.Author.Tests.{le-leb}
 use Rattle.spelling.specs.Numbers.{digits}
