@@ -63,7 +63,6 @@ module _ (report : List ℕ → List ℕ) where
 
     -- a length is that of the report, which stands at the room's front
     pub report_printed : (n : ℕ) → r ≡ Ok n → take n a ≡ printed report text
-    unfolding length_of
     report_printed n e = split (leb (length text) longest)
         (λ h.
         let short = leb-true (length text) longest h in

@@ -74,7 +74,6 @@ module _ (text report room : List ℕ) where
   -- ---- the three cases
 
   refused_reports : (k : Refusal) → number_for text report room ≡ number_of k → Reports text report room (Err k) room
-  unfolding length_of
   refused_reports k e =
       let n : number_for text report room ≡ 0 → ⊥ = λ h. never_done k (sym e ∙ h) in
       record { number = sym e; bytes = sym (refused_length n); held = sym (refused_room n) }
@@ -86,7 +85,6 @@ module _ (text report room : List ℕ) where
   room_short h g = refused_reports ShortRoom (number_22 h g)
 
   pub report_done : length text ≤ longest → length report ≤ length room → {after : List ℕ} {n : ℕ} → Stored room 0 report n after → Reports text report room (Ok n) after
-  unfolding length_of
   report_done h g s =
       let e = room_enough h g in
       record { number = sym e; bytes = s.place ∙ zero-add (length report) ∙ sym (done_length e); held = s.held ∙ sym (done_room e) }
@@ -99,7 +97,6 @@ module _ (text report room : List ℕ) where
 
     same_answer : (r r' : Result ℕ Refusal) → answer_of r ≡ number_for text report room → length_of r ≡ length_for text report room
         → answer_of r' ≡ number_for text report room → length_of r' ≡ length_for text report room → r ≡ r'
-    unfolding length_of
     same_answer (Ok n) (Ok m) p q p' q' = ap Ok (q ∙ sym q')
     same_answer (Ok n) (Err k) p q p' q' = absurd (never_done k (p' ∙ sym p))
     same_answer (Err k) (Ok n) p q p' q' = absurd (never_done k (p ∙ sym p'))
@@ -135,17 +132,6 @@ module _ {text report room a : List ℕ} {r : Result ℕ Refusal} (p : Reports t
 
   -- and a report lies within the room
   pub length_inside : (n : ℕ) → r ≡ Ok n → n ≤ length a
-  unfolding length_of
   length_inside n e =
       let z : number_for text report room ≡ 0 = sym p.number ∙ ap answer_of e in
       omega (arith, ap length_of e, p.bytes, done_length text report room z, fits text report room z, room_length)
-
-  -- ---- what C gets
-
-  pub length_got : (n : ℕ) → r ≡ Ok n → n ≡ length_for text report room
-  unfolding length_of
-  length_got n e = sym (ap length_of e) ∙ p.bytes
-
-  pub refusal_got : (n : Refusal) → r ≡ Err n → 0 ≡ length_for text report room
-  unfolding length_of
-  refusal_got n e = sym (ap length_of e) ∙ p.bytes

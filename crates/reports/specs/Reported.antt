@@ -1,15 +1,15 @@
 -- What a report function answers of a text and its report, and what the room that it was lent then holds: refusal 23, then 22, else the report.
 -- This file is to be believed.
-use Rattle.std.specs.Prelude.{ℕ, cond, List, [], ◌∷◌, ◌≡◌, eqb, leb, length, Result, Ok, Err}
+use Rattle.std.specs.Prelude.{ℕ, cond, List, [], ◌∷◌, ◌≡◌, eqb, leb, length, Result}
+use Rattle.std.specs.Result.{result_unwrap_or}
 use Rattle.std.proofs.lemmas.List.Edits.{sets}
 use Rattle.common.specs.Checks.{needs, judge}
 use Rattle.kinds.specs.declared.Refusal.{Refusal}
 use Rattle.kinds.specs.Refusals.{answer_of}
 
 -- the report's length, which a refusal has not
-unfoldable pub length_of : Result ℕ Refusal → ℕ
-length_of (Ok n) = n
-length_of (Err k) = 0
+abbrev pub length_of : Result ℕ Refusal → ℕ
+length_of r = result_unwrap_or r 0
 
 -- the bytes of the longest text that is played: `LONGEST` in code
 abbrev pub longest : ℕ
