@@ -24,7 +24,7 @@ fn main(rt: HostRuntime) {
 struct LedgerScript;
 
 impl Reporting<ROOM> for LedgerScript {
-    ghost use Rattle.ledger_run.proofs.Held.{held};
+    ghost use Rattle.ledger_run.specs.Held.{held};
 
     ghost report_of = { ledger_report_of Sixteen };
 

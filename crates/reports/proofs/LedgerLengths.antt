@@ -24,7 +24,7 @@ use Rattle.spelling.proofs.LedgerTheorems.{reads_iff_spelled}
 use Rattle.spelling.specs.LedgerSteps.{step_is, is_hand_out}
 use Rattle.reports.specs.LedgerReport.{ledger_answer_to, book_after, hands_out, ledger_line, ledger_lines, ledger_refused, last_lines, ledger_report_for, ledger_report_of}
 use Rattle.reports.specs.Reported.{longest, number_for}
-use Rattle.reports.proofs.Settled.{never_22}
+use Rattle.reports.proofs.Settled.{never_22, room_enough}
 use Rattle.reports.proofs.LedgerLines.{line_short, malformed_short, last_short, last_some}
 use Rattle.reports.proofs.Tags.{step_pays}
 
@@ -111,3 +111,6 @@ module _ (text : List ℕ) where
 
   pub ledger_room : (room : List ℕ) → 1377401 ≤ length room → number_for text (ledger_report_of Sixteen text) room ≡ 22 → ⊥
   ledger_room room g = never_22 text (ledger_report_of Sixteen text) room (λ h. omega (arith, ledger_short h))
+
+  pub ledger_room_enough : (room : List ℕ) → length text ≤ longest → 1377401 ≤ length room → number_for text (ledger_report_of Sixteen text) room ≡ 0
+  ledger_room_enough room h g = room_enough text (ledger_report_of Sixteen text) room h (omega (arith, ledger_short h))

@@ -80,7 +80,11 @@ room_enough = run.run_room
 pub ledger_report_length_bound : (text : List ℕ) → length text ≤ longest → length (ledger_report_of Sixteen text) ≤ 1377401
 ledger_report_length_bound = ledger.ledger_short
 
--- So a room of that many bytes, which the ledger's report function asks for by its type, is never refused by 22.
+-- So with that much room every script that is not too long gets its report.
+pub ledger_room_enough : (text room : List ℕ) → length text ≤ longest → 1377401 ≤ length room → number_for text (ledger_report_of Sixteen text) room ≡ 0
+ledger_room_enough = ledger.ledger_room_enough
+
+-- And a room of that many bytes, which the ledger's report function asks for by its type, is never refused by 22.
 pub ledger_room_never_short : (text room : List ℕ) → 1377401 ≤ length room → number_for text (ledger_report_of Sixteen text) room ≡ 22 → ⊥
 ledger_room_never_short = ledger.ledger_room
 

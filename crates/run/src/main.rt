@@ -24,7 +24,7 @@ fn main(rt: HostRuntime) {
 struct RunText;
 
 impl Reporting<ROOM> for RunText {
-    ghost use Rattle.run.proofs.Held.{held};
+    ghost use Rattle.run.specs.Held.{held};
 
     ghost report_of = { run_report_of Sixteen };
 

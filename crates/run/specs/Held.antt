@@ -1,4 +1,4 @@
--- The room of crate run_report holds every report of a text that is not too long. Assumes nothing.
+-- The room of crate run_report holds every report of a text that is not too long. This file need not be believed: its statement is proved.
 use Rattle.std.proofs.Common.{lit<}
 use Rattle.kinds.specs.declared.Size.TheVariants.{Sixteen}
 use Rattle.reports.specs.RunReport.{run_report_of}
