@@ -1,6 +1,7 @@
 -- A turn of a bench by value: what it makes of what it has heard of its round. N benches.
 use Rattle.std.specs.Prelude.{Bool, cond, not, ◌&&◌, ◌||◌, ℕ, zero, suc, ◌+◌, ◌%◌, min, List, eqb, get_or, Ok, Err}
 use Rattle.std.specs.Int.Bits.{bit_and}
+use Rattle.kinds.specs.declared.Message.{Message}
 use Rattle.kinds.specs.declared.Message.TheVariants.{Round, Out}
 use Rattle.kinds.specs.declared.Refusal.{Refusal}
 use Rattle.kinds.specs.declared.Refusal.TheVariants.{WrongState, MemberAwaited}
@@ -11,6 +12,7 @@ use Rattle.bench.specs.declared.Bench.{Bench}
 use Rattle.bench.specs.declared.Heard.{Heard}
 use Rattle.bench.specs.declared.Gathered.{Gathered}
 use Rattle.bench.specs.declared.Turned.{Turned}
+use Rattle.bench.specs.declared.Turn.{Turn}
 use Rattle.bench.specs.declared.Turn.TheVariants.{Decided, Went}
 
 -- place k is a member and is awaited
@@ -41,6 +43,11 @@ least v set values (suc n) = cond (has set n) (min (get_or values n 0) (least v 
 
 unfoldable pub gather_of : ℕ → Bench → Heard → Gathered
 gather_of N b h = record { value = record { 0 = least b.value.0 (bit_and b.world h.set) h.values N }; world = bit_and b.world h.set }
+
+-- what a turn sends
+abbrev pub message_of : Turn → Message
+message_of (Decided v m) = m
+message_of (Went m) = m
 
 abbrev pub refuses : Bench → Refusal → Turned
 refuses b r = record { bench = b; answer = Err r }

@@ -3,6 +3,9 @@
 
 #![tactic(auto)]
 
+ghost use Rattle.std.specs.Prelude.{◌≡◌};
+ghost use Rattle.bench.specs.Turns.{message_of};
+
 mod changes;
 mod turns;
 
@@ -59,6 +62,17 @@ pub struct Gathered {
 pub enum Turn {
     Decided(SlotNo, Message),
     Went(Message),
+}
+
+impl Turn {
+    // What the bench has to send.
+    pub fn message(self) -> Message
+        ensures { result ≡ message_of self }
+    {
+        match self {
+            Turn::Decided(_, m) | Turn::Went(m) => m,
+        }
+    }
 }
 
 // A turn hands the bench back also where it refuses, then as it was.
