@@ -3,10 +3,13 @@
 
 #![tactic(auto)]
 
+ghost use Rattle.std.specs.Prelude.{◌≡◌};
+ghost use Rattle.bench.specs.Turns.{message_of};
+
 mod changes;
 mod turns;
 
-use kinds::{AnswerNo, Message, PLACES, RoundNo, SlotNo};
+use kinds::{Message, PLACES, Refusal, RoundNo, SlotNo};
 
 // The states of a bench. A number above FAILED is read as failed.
 pub const FRESH: u32 = 0;
@@ -54,22 +57,27 @@ pub struct Gathered {
     pub world: u32,
 }
 
+// What a turn came to: a decision and OUT to send, or the next round's message to send.
 #[derive(Clone, Copy)]
-pub enum Answer {
+pub enum Turn {
     Decided(SlotNo, Message),
     Went(Message),
-    Refused(AnswerNo),
 }
 
+impl Turn {
+    // What the bench has to send.
+    pub fn message(self) -> Message
+        ensures { result ≡ message_of self }
+    {
+        match self {
+            Turn::Decided(_, m) | Turn::Went(m) => m,
+        }
+    }
+}
+
+// A turn hands the bench back also where it refuses, then as it was.
 #[derive(Clone, Copy)]
 pub struct Turned {
     pub bench: Bench,
-    pub answer: Answer,
-}
-
-// What waits on a line.
-#[derive(Clone, Copy)]
-pub enum Waiting {
-    Next(Message),
-    Nothing,
+    pub answer: Result<Turn, Refusal>,
 }

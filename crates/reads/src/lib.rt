@@ -15,59 +15,46 @@ use tables::{Benches, CHOSE, SENT, STATE, VALUE};
 
 pub mod worlds;
 
-// What a bench has decided.
-#[derive(Clone, Copy)]
-pub enum Decision {
-    None,
-    Chosen(SlotNo),
-}
-
 // The bench's state, one of those that crate `bench` names; fresh where a table has no such place.
-#[tactic(auto, using(crate::proofs::Reading::no_state, crate::proofs::Reading::has_state))]
+#[tactic(auto, unfolding(crate::specs::Reads::state_word, tables::specs::Rows::of_row), using(crate::proofs::Reading::found))]
 pub fn state_of(benches: &Benches, bench: BenchNo) -> u32
     ensures { result ≡ state_word benches.now bench.0 }
 {
-    if !has_place(bench) {
-        return FRESH;
+    if has_place(bench) {
+        benches[place(bench)][STATE]
+    } else {
+        FRESH
     }
-    let k = place(bench);
-    benches[k][STATE]
 }
 
 // The last round that the bench sent a message of; 0 where it sent none, or a table has no such place.
-#[tactic(auto, using(crate::proofs::Reading::no_sent, crate::proofs::Reading::has_sent))]
+#[tactic(auto, unfolding(crate::specs::Reads::sent_word, tables::specs::Rows::of_row), using(crate::proofs::Reading::found))]
 pub fn sent_of(benches: &Benches, bench: BenchNo) -> u32
     ensures { result ≡ sent_word benches.now bench.0 }
 {
-    if !has_place(bench) {
-        return 0;
+    if has_place(bench) {
+        benches[place(bench)][SENT]
+    } else {
+        0
     }
-    let k = place(bench);
-    benches[k][SENT]
 }
 
 // What the bench has decided; nothing where a table has no such place.
-#[tactic(auto, using(crate::proofs::Reading::no_decision, crate::proofs::Reading::undecided, crate::proofs::Reading::decided))]
-pub fn decision_of(benches: &Benches, bench: BenchNo) -> Decision
+#[tactic(auto, unfolding(crate::specs::Decisions::decision_is, crate::specs::Reads::decision_at, tables::specs::Runs::decision_of, tables::specs::Rows::of_row), using(crate::proofs::Reading::found))]
+pub fn decision_of(benches: &Benches, bench: BenchNo) -> Option<SlotNo>
     ensures { decision_is result ≡ decision_at benches.now bench.0 }
 {
     if !has_place(bench) {
-        return Decision::None;
+        return None;
     }
-    let k = place(bench);
-    if benches[k][CHOSE] != 1 {
-        return Decision::None;
-    }
-    Decision::Chosen(SlotNo(benches[k][VALUE]))
+    let row = &benches[place(bench)];
+    (row[CHOSE] == 1).then_some(SlotNo(row[VALUE]))
 }
 
 // Whether a table has a place for the number.
-#[tactic(auto, using(sets::proofs::Numbers::bench_low, sets::proofs::Numbers::bench_top))]
+#[tactic(auto, unfolding(common::specs::Benches::is_bench))]
 fn has_place(bench: BenchNo) -> bool
     ensures { result ≡ is_bench places bench.0 }
 {
-    if bench.0 < 1 {
-        return false;
-    }
-    (bench.0 as usize) <= PLACES
+    1 <= bench.0 && bench.0 as usize <= PLACES
 }

@@ -2,6 +2,4 @@ pub mod Words
 pub mod Hearing
 pub mod Sending
 pub mod Turning
-pub mod Moving
-pub mod Starting
 pub mod Numbers

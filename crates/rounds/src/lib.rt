@@ -1,6 +1,5 @@
 // A run as two lent tables: a row for each bench, and its log. The seven steps, and one over all of them.
-// Each promises `table_step` of crate `tables`, for all tables that can be handed in: the answer, 0 or the refusal's number, and both
-// tables after. A refusal leaves both as they were.
+// Each promises `table_step` of crate `tables`, for all tables that can be handed in: the answer and both tables after. A refusal leaves both as they were.
 
 #![tactic(auto)]
 
@@ -12,21 +11,24 @@ mod sends;
 mod starts;
 mod turns;
 
-ghost use Rattle.std.specs.Prelude.{◌≡◌};
+ghost use Rattle.std.specs.Prelude.{◌≡◌, ◌<◌, IfOk};
 ghost use Rattle.published.specs.Rounds as published;
 ghost use Rattle.kinds.specs.Stand.{step_of};
-ghost use Rattle.kinds.specs.Sizes.{benches_of};
+ghost use Rattle.kinds.specs.Sizes.{benches_of, places};
+ghost use Rattle.rounds.specs.Places.{place_in, places_in};
+ghost use Rattle.kinds.specs.Refusals.{answer_of};
 ghost use Rattle.tables.specs.Steps.{Acts, table_step, empty_tables};
 
 use crate::arrivals::{arrive_at, notice_at};
 use crate::departures::{abstain_at, fail_at, leave_at};
 use crate::starts::start_at;
 use crate::turns::turn_at;
-use kinds::{AnswerNo, BenchNo, PLACES, Size, SlotNo, Step};
+use kinds::{BenchNo, PLACES, Refusal, Size, SlotNo, Step};
 use sets::{is_bench, place};
 use tables::{Benches, LOG, Logs, ROW};
 
 // A new run: every bench is fresh and every log is blank.
+#[tactic(auto, unfolding(tables::specs::Steps::empty_tables))]
 pub fn empty(benches: &mut Benches, logs: &mut Logs)
     ensures benches_after { benches.new ≡ empty_tables.benches }
     ensures logs_after { logs.new ≡ empty_tables.logs }
@@ -35,28 +37,23 @@ pub fn empty(benches: &mut Benches, logs: &mut Logs)
     *logs = [[0; LOG]; PLACES];
 }
 
-pub fn step(benches: &mut Benches, logs: &mut Logs, s: Step, size: Size) -> AnswerNo
-    ensures { Acts result benches.new logs.new (table_step (benches_of size) benches.old logs.old (step_of s)) }
+#[tactic(auto, unfolding(kinds::specs::Stand::step_of))]
+pub fn step(benches: &mut Benches, logs: &mut Logs, s: Step, size: Size) -> Result<(), Refusal>
+    ensures { Acts (answer_of result) benches.new logs.new (table_step (benches_of size) benches.old logs.old (step_of s)) }
 {
     match s {
-        Step::Start(bench, value, world) => start(
-            &mut *benches,
-            &mut *logs,
-            bench,
-            value,
-            world,
-            size,
-        ),
-        Step::Abstain(bench) => abstain(&mut *benches, &mut *logs, bench, size),
-        Step::Leave(bench) => leave(&mut *benches, &mut *logs, bench, size),
-        Step::Fail(bench) => fail(&mut *benches, &mut *logs, bench, size),
-        Step::Turn(bench) => turn(&mut *benches, &mut *logs, bench, size),
-        Step::Arrive(bench, from) => arrive(&mut *benches, &mut *logs, bench, from, size),
-        Step::Notice(bench, from) => notice(&mut *benches, &mut *logs, bench, from, size),
+        Step::Start(bench, value, world) => start(benches, logs, bench, value, world, size),
+        Step::Abstain(bench) => abstain(benches, logs, bench, size),
+        Step::Leave(bench) => leave(benches, logs, bench, size),
+        Step::Fail(bench) => fail(benches, logs, bench, size),
+        Step::Turn(bench) => turn(benches, logs, bench, size),
+        Step::Arrive(bench, from) => arrive(benches, logs, bench, from, size),
+        Step::Notice(bench, from) => notice(benches, logs, bench, from, size),
     }
 }
 
 // Checks 1, 3, 4, 5, 6, 7.
+#[tactic(auto, unfolding(tables::specs::Steps::table_step, tables::specs::Steps::at_bench, crate::specs::Places::place_in))]
 pub fn start(
     benches: &mut Benches,
     logs: &mut Logs,
@@ -64,95 +61,123 @@ pub fn start(
     value: SlotNo,
     world: u32,
     size: Size,
-) -> AnswerNo
-    ensures { Acts result benches.new logs.new (table_step (benches_of size) benches.old logs.old (published.start bench.0 value.0 world)) }
+) -> Result<(), Refusal>
+    ensures { Acts (answer_of result) benches.new logs.new (table_step (benches_of size) benches.old logs.old (published.start bench.0 value.0 world)) }
 {
-    if !is_bench(bench, size) {
-        return 1;
-    }
-    start_at(&mut *benches, &mut *logs, place(bench), value, world, size)
+    let k = place_in(bench, size)?;
+    start_at(benches, logs, k, value, world, size)
 }
 
 // Checks 1, 3.
-pub fn abstain(benches: &mut Benches, logs: &mut Logs, bench: BenchNo, size: Size) -> AnswerNo
-    ensures { Acts result benches.new logs.new (table_step (benches_of size) benches.old logs.old (published.abstain bench.0)) }
+#[tactic(auto, unfolding(tables::specs::Steps::table_step, tables::specs::Steps::at_bench, crate::specs::Places::place_in))]
+pub fn abstain(
+    benches: &mut Benches,
+    logs: &mut Logs,
+    bench: BenchNo,
+    size: Size,
+) -> Result<(), Refusal>
+    ensures { Acts (answer_of result) benches.new logs.new (table_step (benches_of size) benches.old logs.old (published.abstain bench.0)) }
 {
-    if !is_bench(bench, size) {
-        return 1;
-    }
-    abstain_at(&mut *benches, &mut *logs, place(bench))
+    let k = place_in(bench, size)?;
+    abstain_at(benches, logs, k)
 }
 
 // Checks 1, 3.
-pub fn leave(benches: &mut Benches, logs: &mut Logs, bench: BenchNo, size: Size) -> AnswerNo
-    ensures { Acts result benches.new logs.new (table_step (benches_of size) benches.old logs.old (published.leave bench.0)) }
+#[tactic(auto, unfolding(tables::specs::Steps::table_step, tables::specs::Steps::at_bench, crate::specs::Places::place_in))]
+pub fn leave(
+    benches: &mut Benches,
+    logs: &mut Logs,
+    bench: BenchNo,
+    size: Size,
+) -> Result<(), Refusal>
+    ensures { Acts (answer_of result) benches.new logs.new (table_step (benches_of size) benches.old logs.old (published.leave bench.0)) }
 {
-    if !is_bench(bench, size) {
-        return 1;
-    }
-    leave_at(&mut *benches, &mut *logs, place(bench))
+    let k = place_in(bench, size)?;
+    leave_at(benches, logs, k)
 }
 
 // Checks 1, 3.
-pub fn fail(benches: &mut Benches, logs: &mut Logs, bench: BenchNo, size: Size) -> AnswerNo
-    ensures { Acts result benches.new logs.new (table_step (benches_of size) benches.old logs.old (published.fail bench.0)) }
+#[tactic(auto, unfolding(tables::specs::Steps::table_step, tables::specs::Steps::at_bench, crate::specs::Places::place_in))]
+pub fn fail(
+    benches: &mut Benches,
+    logs: &mut Logs,
+    bench: BenchNo,
+    size: Size,
+) -> Result<(), Refusal>
+    ensures { Acts (answer_of result) benches.new logs.new (table_step (benches_of size) benches.old logs.old (published.fail bench.0)) }
 {
-    if !is_bench(bench, size) {
-        return 1;
-    }
-    fail_at(&mut *benches, &mut *logs, place(bench))
+    let k = place_in(bench, size)?;
+    fail_at(benches, logs, k)
 }
 
 // Checks 1, 3, 11.
-pub fn turn(benches: &mut Benches, logs: &mut Logs, bench: BenchNo, size: Size) -> AnswerNo
-    ensures { Acts result benches.new logs.new (table_step (benches_of size) benches.old logs.old (published.turn bench.0)) }
+#[tactic(auto, unfolding(tables::specs::Steps::table_step, tables::specs::Steps::at_bench, crate::specs::Places::place_in))]
+pub fn turn(
+    benches: &mut Benches,
+    logs: &mut Logs,
+    bench: BenchNo,
+    size: Size,
+) -> Result<(), Refusal>
+    ensures { Acts (answer_of result) benches.new logs.new (table_step (benches_of size) benches.old logs.old (published.turn bench.0)) }
 {
-    if !is_bench(bench, size) {
-        return 1;
-    }
-    turn_at(&mut *benches, &mut *logs, place(bench), size)
+    let k = place_in(bench, size)?;
+    turn_at(benches, logs, k, size)
 }
 
 // Checks 1, 2, 3, 9, 8.
+#[tactic(auto, unfolding(tables::specs::Steps::table_step, tables::specs::Steps::at_benches, crate::specs::Places::places_in))]
 pub fn arrive(
     benches: &mut Benches,
     logs: &mut Logs,
     bench: BenchNo,
     from: BenchNo,
     size: Size,
-) -> AnswerNo
-    ensures { Acts result benches.new logs.new (table_step (benches_of size) benches.old logs.old (published.arrive bench.0 from.0)) }
+) -> Result<(), Refusal>
+    ensures { Acts (answer_of result) benches.new logs.new (table_step (benches_of size) benches.old logs.old (published.arrive bench.0 from.0)) }
 {
-    if !is_bench(bench, size) {
-        return 1;
-    }
-    if !is_bench(from, size) {
-        return 1;
-    }
-    if bench.0 == from.0 {
-        return 2;
-    }
-    arrive_at(&mut *benches, &mut *logs, place(bench), place(from))
+    let (k, j) = places_in(bench, from, size)?;
+    arrive_at(benches, logs, k, j)
 }
 
 // Checks 1, 2, 3, 10, 9.
+#[tactic(auto, unfolding(tables::specs::Steps::table_step, tables::specs::Steps::at_benches, crate::specs::Places::places_in))]
 pub fn notice(
     benches: &mut Benches,
     logs: &mut Logs,
     bench: BenchNo,
     from: BenchNo,
     size: Size,
-) -> AnswerNo
-    ensures { Acts result benches.new logs.new (table_step (benches_of size) benches.old logs.old (published.notice bench.0 from.0)) }
+) -> Result<(), Refusal>
+    ensures { Acts (answer_of result) benches.new logs.new (table_step (benches_of size) benches.old logs.old (published.notice bench.0 from.0)) }
 {
-    if !is_bench(bench, size) {
-        return 1;
+    let (k, j) = places_in(bench, from, size)?;
+    notice_at(benches, logs, k, j)
+}
+
+// Check 1, and the bench's place.
+#[tactic(auto, using(crate::proofs::Numbers::place_is), unfolding(crate::specs::Places::place_in))]
+fn place_in(bench: BenchNo, size: Size) -> Result<usize, Refusal>
+    ensures answer { result ≡ place_in (benches_of size) bench.0 }
+    ensures placed { IfOk result (λ k. k < places) }
+{
+    if is_bench(bench, size) {
+        Ok(place(bench))
+    } else {
+        Err(Refusal::NoSuchBench)
     }
-    if !is_bench(from, size) {
-        return 1;
-    }
+}
+
+// Checks 1 and 2, and the places of the bench and of the sender.
+#[tactic(auto, unfolding(crate::specs::Places::place_in, crate::specs::Places::places_in))]
+fn places_in(bench: BenchNo, from: BenchNo, size: Size) -> Result<(usize, usize), Refusal>
+    ensures answer { result ≡ places_in (benches_of size) bench.0 from.0 }
+    ensures placed { IfOk result (λ p. (p.0 < places) × (p.1 < places)) }
+{
+    let k = place_in(bench, size)?;
+    let j = place_in(from, size)?;
     if bench.0 == from.0 {
-        return 2;
+        Err(Refusal::SameBench)
+    } else {
+        Ok((k, j))
     }
-    notice_at(&mut *benches, &mut *logs, place(bench), place(from))
 }

@@ -6,36 +6,37 @@ ghost use Rattle.tables.specs.Rows.{rows, logs};
 ghost use Rattle.tables.specs.Lines.{waiting_of, heard_of};
 
 use crate::rows::{round_at, taken_at};
-use bench::{Heard, Waiting};
+use bench::Heard;
 use kinds::{DEPTH, Message, PLACES, RoundMessage, RoundNo, Size, SlotNo};
 use sets::{benches_of, only};
 use tables::{Benches, Logs};
 
 // What waits on the line from the bench at j, which has sent round messages up to `sent`, and OUT if `out` is 1: behind n round
 // messages taken, and OUT if `ended`.
-pub(crate) fn next_on(log: &Logs, j: usize, n: u32, ended: bool, sent: u32, out: u32) -> Waiting
+#[tactic(auto, unfolding(tables::specs::Lines::waiting_of))]
+pub(crate) fn next_on(
+    log: &Logs,
+    j: usize,
+    n: u32,
+    ended: bool,
+    sent: u32,
+    out: u32,
+) -> Option<Message>
     requires { j < places }
     ensures { result ≡ waiting_of (logs log.now j) n ended sent out }
 {
     if n < sent {
         let at = n as usize;
-        if at < DEPTH {
-            let m = RoundMessage {
-                round: RoundNo(n + 1),
-                value: SlotNo(log[j][at]),
-                world: log[j][at + DEPTH],
-            };
-            return Waiting::Next(Message::Round(m));
+        if at >= DEPTH {
+            return None;
         }
-        return Waiting::Nothing;
+        return Some(Message::Round(RoundMessage {
+            round: RoundNo(n + 1),
+            value: SlotNo(log[j][at]),
+            world: log[j][at + DEPTH],
+        }));
     }
-    if out != 1 {
-        return Waiting::Nothing;
-    }
-    if ended {
-        return Waiting::Nothing;
-    }
-    Waiting::Next(Message::Out)
+    (out == 1 && !ended).then_some(Message::Out)
 }
 
 // What the bench at k has heard of its round: of each sender whose message of that round it has taken.

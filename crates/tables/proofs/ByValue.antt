@@ -12,8 +12,7 @@ use Rattle.common.proofs.Tests.{both, clash, split}
 use Rattle.published.specs.Rounds.{arrive, notice}
 use Rattle.kinds.specs.declared.Message.{Message}
 use Rattle.bench.specs.declared.Bench.{Bench}
-use Rattle.bench.specs.declared.Waiting.{Waiting}
-use Rattle.bench.specs.declared.Waiting.TheVariants.{Next, Nothing}
+use Rattle.std.specs.Prelude.{Option, Some, None}
 use Rattle.bench.specs.Changes.{take_of, take_from, notice_of, notice_from}
 use Rattle.kinds.specs.Sizes.{places}
 use Rattle.tables.specs.Rows.{rows}
@@ -40,7 +39,7 @@ module _ (N : ℕ) (t l : List (List ℕ)) where
 
   -- what an arrive that is answered 0 took, and the row that it leaves
   takes : (k j : ℕ) → (arrive_at t l k j).answer ≡ 0
-      → (m : Message) × (next_on t l k j ≡ Next m) × ((arrive_at t l k j).tables ≡ stored t l k (take_of (rows places t k) j m))
+      → (m : Message) × (next_on t l k j ≡ Some m) × ((arrive_at t l k j).tables ≡ stored t l k (take_of (rows places t k) j m))
   unfolding arrive_at take_next
   takes k j z = split (ltb 1 (rows places t k).state)
       (λ e. clash (let p : 3 ≡ 0 = sym (rw e refl) ∙ z in omega arith))
@@ -51,9 +50,9 @@ module _ (N : ℕ) (t l : List (List ℕ)) where
       let w = next (next_on t l k j) (ap (λ (a : Act). a.answer) (sym whole) ∙ z) in
       (w.0, w.1, ap (λ (a : Act). a.tables) whole ∙ w.2)))
     where
-      next : (q : Waiting) → (take_next t l k j q).answer ≡ 0 → (m : Message) × (q ≡ Next m) × ((take_next t l k j q).tables ≡ stored t l k (take_of (rows places t k) j m))
-      next (Next m) y = (m, refl, refl)
-      next Nothing y = clash (omega arith)
+      next : (q : Option Message) → (take_next t l k j q).answer ≡ 0 → (m : Message) × (q ≡ Some m) × ((take_next t l k j q).tables ≡ stored t l k (take_of (rows places t k) j m))
+      next (Some m) y = (m, refl, refl)
+      next None y = clash (omega arith)
 
   notices : (k j : ℕ) → (notice_at t l k j).answer ≡ 0 → (notice_at t l k j).tables ≡ stored t l k (notice_of (rows places t k) j)
   unfolding notice_at
@@ -66,7 +65,7 @@ module _ (N : ℕ) (t l : List (List ℕ)) where
       (λ o. clash (let p : 10 ≡ 0 = sym (rw (e, o) refl) ∙ z in omega arith)))
 
   pub arrive_by_value : (b f : ℕ) → (table_step N t l (arrive b f)).answer ≡ 0
-      → (m : Message) × (next_on t l (b - 1) (f - 1) ≡ Next m) × ((table_step N t l (arrive b f)).tables ≡ stored t l (b - 1) (take_from N (rows places t (b - 1)) f m))
+      → (m : Message) × (next_on t l (b - 1) (f - 1) ≡ Some m) × ((table_step N t l (arrive b f)).tables ≡ stored t l (b - 1) (take_from N (rows places t (b - 1)) f m))
   unfolding table_step
   arrive_by_value b f z =
       let p = at_places (arrive_at t l) b f z in

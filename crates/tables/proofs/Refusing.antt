@@ -12,8 +12,8 @@ use mathlib.Core.List.{List}
 use Prim.Native.Nat.{ℕ, ◌-◌, ◌^◌, ◌≤◌}
 use Rattle.published.specs.Rounds.{Step, start, abstain, leave, fail, turn, arrive, notice}
 use Rattle.common.specs.Benches.{is_bench}
-use Rattle.bench.specs.declared.Waiting.{Waiting}
-use Rattle.bench.specs.declared.Waiting.TheVariants.{Next, Nothing}
+use Rattle.std.specs.Prelude.{Option, Some, None}
+use Rattle.kinds.specs.declared.Message.{Message}
 use Rattle.bench.specs.Turns.{go_on_of}
 use Rattle.bench.proofs.Answers.{turn_ind}
 use Rattle.tables.specs.Steps.{Tables, Act, Acts, refused, acted, lacks_one, lacked_by_one, start_at, abstain_at, leave_at, fail_at, turn_by, turn_on, turn_at, take_next, arrive_at, notice_at, at_bench, at_benches, table_step}
@@ -34,10 +34,10 @@ module _ (N : ℕ) (t l : List (List ℕ)) where
   either true x y p q = p
   either false x y p q = q
 
-  by_next : (k j : ℕ) (w : Waiting) → Stays (take_next t l k j w)
+  by_next : (k j : ℕ) (w : Option Message) → Stays (take_next t l k j w)
   unfolding take_next
-  by_next k j (Next m) = yes _
-  by_next k j Nothing = no 8 refl
+  by_next k j (Some m) = yes _
+  by_next k j None = no 8 refl
 
   at_bench_lem : (f : ℕ → Act) → ((k : ℕ) → Stays (f k)) → (b : ℕ) → Stays (at_bench N t l f b)
   unfolding at_bench

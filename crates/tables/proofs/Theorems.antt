@@ -5,15 +5,18 @@ use mathlib.Core.Path.{◌≡◌, refl, sym, ap, ◌∙◌}
 use mathlib.Core.List.{List, [], ◌++◌}
 use Prim.Native.Nat.{ℕ, suc, ◌+◌, ◌*◌, ◌≤◌, ◌<◌}
 use lib.ListN.{get_or}
+use Rattle.std.specs.Prelude.{Result, Ok, Err}
 use Rattle.published.specs.Rounds.{Run, Step, start, turn, step, run_from, new_run, chosen}
 use Rattle.published.proofs.Theorems as published
 use Rattle.published.specs.History.{history}
 use Rattle.bench.specs.declared.Bench.{Bench}
-use Rattle.bench.specs.declared.Answer.{Answer}
-use Rattle.bench.specs.declared.Answer.TheVariants.{Decided, Went, Refused}
-use Rattle.bench.specs.Turns.{turn_of, number_of}
+use Rattle.bench.specs.declared.Turn.{Turn}
+use Rattle.bench.specs.declared.Turn.TheVariants.{Decided, Went}
+use Rattle.bench.specs.Turns.{turn_of}
 use Rattle.kinds.specs.Sizes.{benches_of, places, depth}
 use Rattle.kinds.specs.declared.Size.{Size}
+use Rattle.kinds.specs.declared.Refusal.{Refusal}
+use Rattle.kinds.specs.Refusals.{answer_of}
 use Rattle.kinds.proofs.Sizes.{benches_fit}
 use Rattle.tables.specs.Rows.{rows, logs}
 use Rattle.tables.specs.Lines.{heard_of}
@@ -122,15 +125,15 @@ pub turn_local : (N : ℕ) (t l t' l' : List (List ℕ)) (k : ℕ) → get_or t 
     → turn_of N (rows places t k) (heard_of N l (rows places t k)) ≡ turn_of N (rows places t' k) (heard_of N l' (rows places t' k))
 turn_local N t l t' l' k e same = rw (← e, heard_local N (rows places t k) l l' same) refl
 
--- A turn is answered by document 01's number of what the bench by value answers.
-pub turn_number : (N : ℕ) (t l : List (List ℕ)) (k : ℕ) → (turn_at N t l k).answer ≡ number_of (turn_of N (rows places t k) (heard_of N l (rows places t k))).answer
-unfolding turn_at turn_on turn_by number_of
+-- A turn is answered by the number of what the bench by value answers.
+pub turn_number : (N : ℕ) (t l : List (List ℕ)) (k : ℕ) → (turn_at N t l k).answer ≡ answer_of (turn_of N (rows places t k) (heard_of N l (rows places t k))).answer
+unfolding turn_at turn_on turn_by
 turn_number N t l k = said _ (turn_of N (rows places t k) (heard_of N l (rows places t k))).answer
   where
-    said : (b : Bench) (a : Answer) → (turn_by t l k b a).answer ≡ number_of a
-    said b (Decided v m) = refl
-    said b (Went m) = refl
-    said b (Refused n) = refl
+    said : (b : Bench) (a : Result Turn Refusal) → (turn_by t l k b a).answer ≡ answer_of a
+    said b (Ok (Decided v m)) = refl
+    said b (Ok (Went m)) = refl
+    said b (Err r) = refl
 
 -- After two lists of steps that bring the same history to a bench, turn answers it the same number.
 pub turn_answer_local : (N : ℕ) → N ≤ places → (l l' : List Step) (b : ℕ) → history N new_run b l ≡ history N new_run b l'

@@ -23,6 +23,9 @@ use Rattle.bench.specs.Changes.{choosing, in_round}
 use Rattle.bench.specs.Turns.{awaits_of, forbids_of, least, gather_of, refuses, go_on_of, concludes, turn_of}
 use Rattle.bench.proofs.Answers.{next_within}
 use Rattle.kinds.specs.Sizes.{places, depth}
+use Rattle.kinds.specs.Refusals.{number_of}
+use Rattle.kinds.specs.declared.Refusal.{Refusal}
+use Rattle.kinds.specs.declared.Refusal.TheVariants.{WrongState, MemberAwaited}
 use Rattle.tables.specs.Rows.{rows, logs}
 use Rattle.tables.specs.Lines.{message, hears, heard_of}
 use Rattle.tables.specs.Steps.{acted, sent_of, turn_by, turn_on, turn_at}
@@ -55,17 +58,17 @@ module _ (N : ℕ) (t l : List (List ℕ)) (s : Sound N t l) (k : ℕ) (hk : k <
 
   -- ---- a check of turn beside the published one
 
-  asks_turn : (n : ℕ) (c d : Bool) (p : Turned) (more : List Check) (next : Answer) → d ≡ c → (c ≡ true → Linked N (turn_on t l k p) (judge no more next))
-      → Linked N (turn_on t l k (cond c p (refuses b n))) (judge no (needs n d ∷ more) next)
+  asks_turn : (r : Refusal) (c d : Bool) (p : Turned) (more : List Check) (next : Answer) → d ≡ c → (c ≡ true → Linked N (turn_on t l k p) (judge no more next))
+      → Linked N (turn_on t l k (cond c p (refuses b r))) (judge no (needs (number_of r) d ∷ more) next)
   unfolding turn_on turn_by
-  asks_turn n true d p more next e f = asks N t l s n true d _ more next e f
-  asks_turn n false d p more next e f = asks N t l s n false d _ more next e f
+  asks_turn r true d p more next e f = asks N t l s (number_of r) true d _ more next e f
+  asks_turn r false d p more next e f = asks N t l s (number_of r) false d _ more next e f
 
-  bars_turn : (n : ℕ) (c d : Bool) (p : Turned) (more : List Check) (next : Answer) → d ≡ not c → (c ≡ false → Linked N (turn_on t l k p) (judge no more next))
-      → Linked N (turn_on t l k (cond c (refuses b n) p)) (judge no (needs n d ∷ more) next)
+  bars_turn : (r : Refusal) (c d : Bool) (p : Turned) (more : List Check) (next : Answer) → d ≡ not c → (c ≡ false → Linked N (turn_on t l k p) (judge no more next))
+      → Linked N (turn_on t l k (cond c (refuses b r) p)) (judge no (needs (number_of r) d ∷ more) next)
   unfolding turn_on turn_by
-  bars_turn n true d p more next e f = bars N t l s n true d _ more next e f
-  bars_turn n false d p more next e f = bars N t l s n false d _ more next e f
+  bars_turn r true d p more next e f = bars N t l s (number_of r) true d _ more next e f
+  bars_turn r false d p more next e f = bars N t l s (number_of r) false d _ more next e f
 
   -- ---- a running bench: what turn asks is what the published turn asks
 
@@ -124,7 +127,7 @@ module _ (N : ℕ) (t l : List (List ℕ)) (s : Sound N t l) (k : ℕ) (hk : k <
     unfolding turn_on turn_by go_on_of gather_of in_round advancing
     goes_on room = rw (next_within b.round.0 room, value_eq, world_eq) (enters room (next_value N (suc k) x) (next_world N (suc k) x) next_world_lem)
 
-    -- W9: a log has room for the round that it goes on to
+    -- a log has room for the round that it goes on to
     room_left : settled N (suc k) x ≡ true → decides N (suc k) x ≡ false → b.round.0 < depth
     unfolding run_of run_by bench_of state_of
     room_left e d = omega (arith, next_round_lem N run (reached N t l s) (suc k) (rw st refl) d e, room_for N s.fits)
@@ -138,8 +141,8 @@ module _ (N : ℕ) (t l : List (List ℕ)) (s : Sound N t l) (k : ℕ) (hk : k <
   pub turn_links : Linked N (turn_at N t l k) (behind N t l s 1 (turn (suc k)))
   unfolding turn_at turn_of checks after
   turn_links =
-      asks_turn 3 (eqb b.state 1) _ _ _ _ state_is λ e₃. let st = eqb-true b.state 1 e₃ in
-      bars_turn 11 (awaits_of N b h) _ _ _ _ (settled_eq st) λ e₁₁.
+      asks_turn WrongState (eqb b.state 1) _ _ _ _ state_is λ e₃. let st = eqb-true b.state 1 e₃ in
+      bars_turn MemberAwaited (awaits_of N b h) _ _ _ _ (settled_eq st) λ e₁₁.
       all_hold_lem N t l s _ _ (ends st (settled_eq st ∙ rw e₁₁ refl))
     where
       state_is : is_running x.state ≡ eqb b.state 1

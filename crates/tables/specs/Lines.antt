@@ -1,24 +1,22 @@
 -- A line is the sender's log and the receiver's count: what waits on it, and what a bench has heard of its round.
 -- A log has the value of round r at place r - 1 and its world `depth` places further.
-use Rattle.std.specs.Prelude.{Bool, cond, not, ◌&&◌, ℕ, zero, suc, ◌+◌, ◌-◌, ◌^◌, List, [], eqb, leb, ltb, get_or, set, replicate}
+use Rattle.std.specs.Prelude.{Bool, cond, not, ◌&&◌, ℕ, zero, suc, ◌+◌, ◌-◌, ◌^◌, List, [], eqb, leb, ltb, get_or, set, replicate, Option, Some, None}
 use Rattle.std.specs.Int.Bits.{bit_or}
 use Rattle.kinds.specs.Sizes.{places, depth}
 use Rattle.kinds.specs.declared.Message.{Message}
 use Rattle.kinds.specs.declared.Message.TheVariants.{Round, Out}
 use Rattle.bench.specs.declared.Heard.{Heard}
 use Rattle.bench.specs.declared.Bench.{Bench}
-use Rattle.bench.specs.declared.Waiting.{Waiting}
-use Rattle.bench.specs.declared.Waiting.TheVariants.{Next, Nothing}
 
 abbrev pub message : ℕ → ℕ → ℕ → Message
 message r v w = Round (record { round = record { 0 = r }; value = record { 0 = v }; world = w })
 
 -- what waits behind n round messages taken (and OUT, if o), of a log whose bench has sent round messages up to `sent` (and OUT, if out is 1)
-unfoldable pub waiting_of : List ℕ → ℕ → Bool → ℕ → ℕ → Waiting
+unfoldable pub waiting_of : List ℕ → ℕ → Bool → ℕ → ℕ → Option Message
 waiting_of log n o sent out =
     cond (ltb n sent)
-    (cond (ltb n depth) (Next (message (n + 1) (get_or log n 0) (get_or log (n + depth) 0))) Nothing)
-    (cond (eqb out 1 && not o) (Next Out) Nothing)
+    (cond (ltb n depth) (Some (message (n + 1) (get_or log n 0) (get_or log (n + depth) 0))) None)
+    (cond (eqb out 1 && not o) (Some Out) None)
 
 abbrev pub silence : Heard
 silence = record { set = 0; values = replicate places 0; worlds = replicate places 0 }

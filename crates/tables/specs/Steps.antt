@@ -1,17 +1,17 @@
 -- The seven steps on the two tables, for N benches: the answer and both tables after, for all tables that can be handed in.
 -- Whatever N is, a table has `places` rows and a log has room for `depth` rounds.
-use Rattle.std.specs.Prelude.{◌≡◌, Bool, cond, not, ◌&&◌, ◌||◌, ℕ, ◌+◌, ◌-◌, ◌^◌, List, [], ◌∷◌, eqb, ltb, get_or, set, replicate}
+use Rattle.std.specs.Prelude.{◌≡◌, Bool, cond, not, ◌&&◌, ◌||◌, ℕ, ◌+◌, ◌-◌, ◌^◌, List, [], ◌∷◌, eqb, ltb, get_or, set, replicate, Option, Some, None, Result, Ok, Err}
 use Rattle.published.specs.Rounds.{Step, start, abstain, leave, fail, turn, arrive, notice}
 use Rattle.common.specs.Benches.{is_bench}
 use Rattle.kinds.specs.Sizes.{places, depth}
+use Rattle.kinds.specs.Refusals.{number_of}
+use Rattle.kinds.specs.declared.Refusal.{Refusal}
 use Rattle.kinds.specs.declared.Message.{Message}
 use Rattle.kinds.specs.declared.Message.TheVariants.{Round, Out}
 use Rattle.bench.specs.declared.Bench.{Bench}
-use Rattle.bench.specs.declared.Waiting.{Waiting}
-use Rattle.bench.specs.declared.Waiting.TheVariants.{Next, Nothing}
 use Rattle.bench.specs.declared.Turned.{Turned}
-use Rattle.bench.specs.declared.Answer.{Answer}
-use Rattle.bench.specs.declared.Answer.TheVariants.{Decided, Went, Refused}
+use Rattle.bench.specs.declared.Turn.{Turn}
+use Rattle.bench.specs.declared.Turn.TheVariants.{Decided, Went}
 use Rattle.common.specs.Places.{has, some}
 use Rattle.bench.specs.Changes.{take_of, notice_of, in_state, in_round, sent_to, sent_out}
 use Rattle.bench.specs.Turns.{turn_of}
@@ -91,10 +91,10 @@ leave_at t l k =
 unfoldable pub fail_at : List (List ℕ) → List (List ℕ) → ℕ → Act
 fail_at t l k = cond (ltb 3 (rows places t k).state) (refused 3 t l) (acted (stored t l k (in_state 5 (rows places t k))))
 
-unfoldable pub turn_by : List (List ℕ) → List (List ℕ) → ℕ → Bench → Answer → Act
-turn_by t l k b (Decided v m) = acted (sent_of t l k b m)
-turn_by t l k b (Went m) = acted (sent_of t l k b m)
-turn_by t l k b (Refused n) = refused n t l
+unfoldable pub turn_by : List (List ℕ) → List (List ℕ) → ℕ → Bench → Result Turn Refusal → Act
+turn_by t l k b (Ok (Decided v m)) = acted (sent_of t l k b m)
+turn_by t l k b (Ok (Went m)) = acted (sent_of t l k b m)
+turn_by t l k b (Err r) = refused (number_of r) t l
 
 unfoldable pub turn_on : List (List ℕ) → List (List ℕ) → ℕ → Turned → Act
 turn_on t l k r = turn_by t l k r.bench r.answer
@@ -102,12 +102,12 @@ turn_on t l k r = turn_by t l k r.bench r.answer
 unfoldable pub turn_at : ℕ → List (List ℕ) → List (List ℕ) → ℕ → Act
 turn_at N t l k = turn_on t l k (turn_of N (rows places t k) (heard_of N l (rows places t k)))
 
-unfoldable pub take_next : List (List ℕ) → List (List ℕ) → ℕ → ℕ → Waiting → Act
-take_next t l k j (Next m) = acted (stored t l k (take_of (rows places t k) j m))
-take_next t l k j Nothing = refused 8 t l
+unfoldable pub take_next : List (List ℕ) → List (List ℕ) → ℕ → ℕ → Option Message → Act
+take_next t l k j (Some m) = acted (stored t l k (take_of (rows places t k) j m))
+take_next t l k j None = refused 8 t l
 
 -- what waits for bench k on the line from bench j
-unfoldable pub next_on : List (List ℕ) → List (List ℕ) → ℕ → ℕ → Waiting
+unfoldable pub next_on : List (List ℕ) → List (List ℕ) → ℕ → ℕ → Option Message
 next_on t l k j = waiting_of (logs l j) (get_or (rows places t k).taken j 0) (has (rows places t k).outs j) (rows places t j).sent (rows places t j).silent
 
 unfoldable pub arrive_at : List (List ℕ) → List (List ℕ) → ℕ → ℕ → Act

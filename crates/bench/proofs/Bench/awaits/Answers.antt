@@ -1,23 +1,14 @@
--- `Bench::awaits`: no place below k is awaited.
-use borrow.Author.Rules.{rules}
-use mathlib.Core.Path.{refl}
-use Rattle.common.specs.Places.{some}
-use Rattle.bench.specs.Turns.{awaits_of}
-use Rattle.common.proofs.Places.{some_passed}
-use Rattle.bench.proofs.Visits.{found_among, none_among}
+-- `Bench::awaits`: `any` visits the places below n.
+use Rattle.std.proofs.Common.{refl, ◌∙◌, rules, arith}
+use Rattle.std.proofs.lemmas.Iterator.{YieldsList-from_range}
+use Rattle.std.proofs.lemmas.Iterator.Search.{any_from_yields_List}
+use Rattle.kinds.specs.Sizes.{benches_of}
+use Rattle.bench.specs.Turns.{awaited_at, awaits_of}
+use Rattle.bench.proofs.Visits.{some_any}
 use Rattle.bench.proofs.Bench.awaits.Goals as goal
-
-pub loop-k-init : goal.loop-k-init
-unfolding some
-loop-k-init c = (search rules, refl)
-
-pub returns-then-awaited_at : goal.returns-then-awaited_at
-unfolding awaits_of
-returns-then-awaited_at c = search found_among
-
-pub loop-k-preserved : goal.loop-k-preserved
-loop-k-preserved c = (search rules, search some_passed)
 
 pub returns : goal.returns
 unfolding awaits_of
-returns c = search none_among
+returns c =
+    any_from_yields_List (awaited_at c.args.self c.args.h) _ _ _ c.any.ensures.ran (YieldsList-from_range 0 _ (benches_of c.args.size) refl (omega arith)) (λ x b q k. search rules)
+    ∙ some_any _ _

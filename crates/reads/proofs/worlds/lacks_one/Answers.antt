@@ -1,23 +1,14 @@
--- `lacks_one`: the world lacks no bench below j.
-use Rattle.std.proofs.Common.{rules}
-use mathlib.Core.Path.{refl}
-use Rattle.common.specs.Places.{some}
-use Rattle.tables.specs.Steps.{lacks_one}
-use Rattle.common.proofs.Places.{some_passed}
-use Rattle.bench.proofs.Visits.{found_among, none_among}
+-- `lacks_one`: `any` visits the places below n.
+use Rattle.std.proofs.Common.{refl, ◌∙◌, rules, arith}
+use Rattle.std.proofs.lemmas.Iterator.{YieldsList-from_range}
+use Rattle.std.proofs.lemmas.Iterator.Search.{any_from_yields_List}
+use Rattle.kinds.specs.Sizes.{benches_of}
+use Rattle.tables.specs.Steps.{lacks_at, lacks_one}
+use Rattle.bench.proofs.Visits.{some_any}
 use Rattle.reads.proofs.worlds.lacks_one.Goals as goal
-
-pub loop-j-init : goal.loop-j-init
-unfolding some
-loop-j-init c = (search rules, refl)
-
-pub returns-then-lacks_at : goal.returns-then-lacks_at
-unfolding lacks_one
-returns-then-lacks_at c = search found_among
-
-pub loop-j-preserved : goal.loop-j-preserved
-loop-j-preserved c = (search rules, search some_passed)
 
 pub returns : goal.returns
 unfolding lacks_one
-returns c = search none_among
+returns c =
+    any_from_yields_List (lacks_at c.args.benches.now c.args.world) _ _ _ c.any.ensures.ran (YieldsList-from_range 0 _ (benches_of c.args.size) refl (omega arith)) (λ x b q k. search rules)
+    ∙ some_any _ _
