@@ -4,7 +4,7 @@ use borrow.Author.Tests.{le-leb}
 use Rattle.spelling.proofs.Decimals.{digits_length, number_short}
 use Rattle.spelling.proofs.Answers.{answer_length}
 use Rattle.spelling.proofs.Stores.{room_yes}
-use Rattle.room.proofs.answer.has_room_for_answer.Goals as goal
+use Rattle.room.proofs.writer.Writer.has_room_for_answer.Goals as goal
 
 pub overflow_add-number_length : goal.overflow_add-number_length
 overflow_add-number_length c = omega (arith, number_short _ c.number_length.ensures)

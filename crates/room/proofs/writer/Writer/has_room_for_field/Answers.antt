@@ -4,7 +4,7 @@ use borrow.Author.Tests.{le-leb}
 use Rattle.spelling.specs.Numbers.{digits}
 use Rattle.spelling.proofs.Decimals.{digits_length, number_short}
 use Rattle.spelling.proofs.Stores.{room_yes}
-use Rattle.room.proofs.decimal.has_room_for_field.Goals as goal
+use Rattle.room.proofs.writer.Writer.has_room_for_field.Goals as goal
 
 pub overflow_add-key-else-has_room : goal.overflow_add-key-else-has_room
 overflow_add-key-else-has_room c = omega (arith, number_short _ c.number_length.ensures)
