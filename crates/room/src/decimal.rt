@@ -1,7 +1,8 @@
 // Numbers written: any u32 in decimal.
-ghost use Rattle.std.specs.Prelude.{◌≡◌, ◌++◌, ◌+◌, leb, length};
+ghost use Rattle.std.specs.Prelude.{◌≡◌, ◌++◌, ◌+◌, ◌≤◌, leb, length};
 ghost use Rattle.std.specs.List.{prefix_len};
 ghost use Rattle.spelling.specs.Numbers.{digits};
+ghost use Rattle.spelling.specs.Stored.{Stored};
 ghost use Rattle.room.specs.Writes.{Holds, Puts, Writes};
 
 use crate::writer::Writer;
@@ -24,20 +25,27 @@ fn powers_reached(n: u32) -> usize
     POWERS.iter().take_while(|power| **power <= n).count()
 }
 
+// Stores n from a place on, and answers the place behind it. Most numbers of a text have one digit. (..)
+fn store_digits(room: &mut [u8], at: usize, n: u32) -> usize
+    requires { at + length (digits n) ≤ length room.old }
+    ensures { Stored room.old at (digits n) result room.new }
+{
+    if n < 10 {
+        room[at] = b'0' + n as u8;
+        return at + 1;
+    }
+    let end = at + number_length(n);
+    write_digits(u64::from(n), room, end);
+    end
+}
+
 impl Writer<'_> {
-    // Most numbers of a text have one digit.
+    #[inline(always)]
     pub(crate) fn store_number(&mut self, n: u32)
         requires { Holds self.old (digits n) }
         ensures { Writes self.old (digits n) self.new }
     {
-        if n < 10 {
-            self.room[self.at] = b'0' + n as u8;
-            self.at += 1;
-            return;
-        }
-        let end = self.at + number_length(n);
-        write_digits(u64::from(n), self.room, end);
-        self.at = end;
+        self.at = store_digits(self.room, self.at, n);
     }
 
     // The key is a constant where this is called: as part of its caller it stores words, and calls no memcpy.
