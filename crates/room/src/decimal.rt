@@ -25,26 +25,28 @@ fn powers_reached(n: u32) -> usize
     POWERS.iter().take_while(|power| **power <= n).count()
 }
 
-// Stores n from a place on, and answers the place behind it. Most numbers of a text have one digit. (..)
+// Stores n from a place on, and answers the place behind it.
 fn store_digits(room: &mut [u8], at: usize, n: u32) -> usize
     requires { at + length (digits n) ≤ length room.old }
     ensures { Stored room.old at (digits n) result room.new }
 {
-    if n < 10 {
-        room[at] = b'0' + n as u8;
-        return at + 1;
-    }
     let end = at + number_length(n);
     write_digits(u64::from(n), room, end);
     end
 }
 
 impl Writer<'_> {
+    // Most numbers of a text have one digit: that is stored without a call.
     #[inline(always)]
     pub(crate) fn store_number(&mut self, n: u32)
         requires { Holds self.old (digits n) }
         ensures { Writes self.old (digits n) self.new }
     {
+        if n < 10 {
+            self.room[self.at] = b'0' + n as u8;
+            self.at += 1;
+            return;
+        }
         self.at = store_digits(self.room, self.at, n);
     }
 
