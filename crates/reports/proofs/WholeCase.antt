@@ -1,4 +1,4 @@
--- The two examples of run text, document 01's whole case among them: the report of each text is what specs/Examples.antt says, by computation.
+-- The two examples of run text, the case that docs/SCOPE.md gives whole among them: the report of each text is what specs/Examples.antt says, by computation.
 -- Assumes nothing.
 use mathlib.Core.Path.{◌≡◌, refl}
 use Rattle.published.specs.Rounds.{new_run, new_bench, step, find, has_out, view_of, got, see, agrees, is_awaited, is_heard, decides, decides_on, settled, settled_on, next_world, heard_on, lesser, next_value, least_on, in_state, in_round, sending, taking, noticing, choosing, entering, parting, deciding, advancing, turned, leaving, is_fresh, is_running, is_failed, is_gone, is_found, started_with, has_all, in_all, waiting, some, taking_first, checks, after, refuse, done, run_from}
