@@ -47,6 +47,7 @@ fn store_bench(room: &mut [u8], at: usize, benches: &Benches, bench: BenchNo) ->
     put_bytes(room, f, b"\n")
 }
 
+#[tactic(auto, unfolding(tables::specs::Runs::state_of, reports::specs::RunReport::state_text), using(crate::proofs::BenchLines::above_failed))]
 fn state_name(state: u32) -> &'static [u8]
     ensures { result.now ≡ state_text (state_of state) }
 {
@@ -60,6 +61,7 @@ fn state_name(state: u32) -> &'static [u8]
     }
 }
 
+#[tactic(auto, unfolding(reads::specs::Decisions::decision_is, reports::specs::RunReport::value_text))]
 fn put_value(room: &mut [u8], at: usize, decision: Option<SlotNo>) -> usize
     ensures { Stored room.old at (fitting room.old at (value_text (decision_is decision))) result room.new }
 {
