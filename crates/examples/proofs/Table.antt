@@ -1,4 +1,4 @@
--- P1 to P10 of document 01, W1's cases and that of W8: the table of specs/Table.antt holds, by computation. Assumes nothing.
+-- The worked examples of docs/SCOPE.md, those of a ledger's sender that leaves and of an early leaver: the table of specs/Table.antt holds, by computation. Assumes nothing.
 use mathlib.Core.Path.{◌≡◌, refl}
 use mathlib.Core.Bool.{true}
 use Rattle.common.specs.Worlds.{bit, member, world_of, every_in, within}

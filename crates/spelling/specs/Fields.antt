@@ -18,6 +18,10 @@ is_prefix [] l = true
 is_prefix (k ∷ ks) [] = false
 is_prefix (k ∷ ks) (c ∷ l) = cond (eqb c k) (is_prefix ks l) false
 
+-- the place behind a key that stands at a place
+unfoldable pub behind : List ℕ → List ℕ → ℕ → Option ℕ
+behind key text at = cond (is_prefix key (drop at text)) (Some (at + length key)) None
+
 -- ---- numbers
 
 -- the value of a digit's byte, and 10 of any other
@@ -47,7 +51,9 @@ below width room = cond (leb room width) (10 ^ (width - room)) 0
 
 -- a key and a number behind it
 unfoldable pub field_at : List ℕ → List ℕ → ℕ → Found ℕ
-field_at key text at = cond (is_prefix key (drop at text)) (number_at text (at + length key)) None
+field_at key text at = do
+  next ← behind key text at
+  number_at text next
 
 -- ---- names
 

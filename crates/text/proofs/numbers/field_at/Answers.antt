@@ -1,15 +1,12 @@
--- `field_at` meets its contract. By whether the key stands there. Assumes nothing.
-use native.Mathlib.Omega.{arith}
-use mathlib.Core.Bool.{not}
-use mathlib.Core.Path.{ap}
-use Rattle.spelling.proofs.Keys.{key_place, field_none, field_some}
+-- `field_at` meets its contract. By what was found. Assumes nothing.
+use Rattle.std.proofs.Common.{rules}
+use Rattle.spelling.specs.Fields.{field_at}
 use Rattle.text.proofs.numbers.field_at.Goals as goal
 
-pub returns-then-not-starts : goal.returns-then-not-starts
-returns-then-not-starts c = search field_none
-
-pub overflow_add-at : goal.overflow_add-at
-overflow_add-at c = omega (arith, key_place c.args.key.now c.args.text.now c.args.at c.starts.ensures (ap not c.if-not-starts.false))
+pub returns-in_err-behind : goal.returns-in_err-behind
+unfolding field_at
+returns-in_err-behind c = search rules
 
 pub returns : goal.returns
-returns c = search field_some
+unfolding field_at
+returns c = search rules
