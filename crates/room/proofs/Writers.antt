@@ -1,7 +1,7 @@
 -- Writers: one after another, and what is written where the room holds it. Assumes nothing.
-use Rattle.std.proofs.Common.{◌≡◌, ℕ, ◌+◌, Bool, true, false, leb, List, ◌++◌, length, refl, sym, ◌∙◌, arith}
+use Rattle.std.proofs.Common.{◌≡◌, ℕ, ◌+◌, Bool, true, false, leb, List, [], ◌++◌, length, refl, sym, ◌∙◌, arith}
 use borrow.Author.Tests.{leb-true, leb-false}
-use Rattle.spelling.proofs.Stores.{stored_then, fitting_stored, stored_fitting, not_fitting, room_front, room_after_lem}
+use Rattle.spelling.proofs.Stores.{stored_then, fitting_stored, stored_fitting, not_fitting, room_front, room_after_lem, Left, left_start, left_step, left_room, left_end, stored_nil}
 use Rattle.room.specs.declared.writer.Writer.{Writer}
 use Rattle.room.specs.Writes.{Writes, Puts, Holds}
 
@@ -41,3 +41,25 @@ put_behind {a} w v p h = holds_behind (put_last w p (holds_front a w v h)) v h
 
 pub put_then : {a b c : Writer} (w v : List ℕ) → Puts a w b → (Holds b v → Writes b v c) → Holds a (w ++ v) → Writes a (w ++ v) c
 put_then {a} w v p f h = writes_then (put_last w p (holds_front a w v h)) (f (put_behind w v p h))
+
+-- ---- a run that is written part by part: `total` from where `first` stood, of which `rest` is left to be written
+
+pub record Going (first : Writer) (total : List ℕ) (out : Writer) (rest : List ℕ) : Type 0 where
+  pub same_room : out.room.ghost_name ≡ first.room.ghost_name
+  pub left : Left first.room.now first.at total out.room.now out.at rest
+
+pub going_start : (out : Writer) (total : List ℕ) → Going out total out total
+going_start out total = record { same_room = refl; left = left_start out.room.now out.at total }
+
+module _ {first : Writer} {total : List ℕ} where
+  pub going_step : {a b : Writer} {w : List ℕ} (rest : List ℕ) → Going first total a (w ++ rest) → Writes a w b → Going first total b rest
+  going_step rest p q = record { same_room = q.same_room ∙ p.same_room; left = left_step rest p.left q.stored }
+
+  pub going_holds : {a : Writer} (w rest : List ℕ) → Going first total a (w ++ rest) → Holds first total → Holds a w
+  going_holds w rest p h = left_room w rest p.left h
+
+  pub going_end : {a : Writer} → Going first total a [] → Writes first total a
+  going_end p = record { same_room = p.same_room; stored = left_end p.left }
+
+pub writes_none : (out : Writer) → Writes out [] out
+writes_none out = record { same_room = refl; stored = stored_nil out.room.now out.at }

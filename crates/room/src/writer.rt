@@ -1,5 +1,5 @@
 // What is written to: a room that is lent, and the place in it where the next byte goes.
-ghost use Rattle.std.specs.Prelude.{◌≡◌, ◌+◌, leb, length};
+ghost use Rattle.std.specs.Prelude.{◌≡◌, ◌+◌, leb, length, take};
 ghost use Rattle.room.specs.Writes.{Holds, Puts, Writes};
 
 #[derive(Drop)]
@@ -14,6 +14,13 @@ impl Writer<'_> {
         ensures { result ≡ leb (self.now.at + count) (length self.now.room.now) }
     {
         self.at <= self.room.len() && count <= self.room.len() - self.at
+    }
+
+    // What stands before the place.
+    pub fn written(&self) -> &[u8]
+        ensures { result.now ≡ take self.now.at self.now.room.now }
+    {
+        &self.room[..self.at.min(self.room.len())]
     }
 
     pub(crate) fn store_bytes(&mut self, bytes: &[u8])

@@ -10,11 +10,10 @@ use lib.Dec.{leb}
 use lib.ListN.{length, get_or, drop, length-append, drop_of_length-le}
 use borrow.Author.Tests.{le-leb}
 use Rattle.spelling.specs.Numbers.{digits}
-use Rattle.spelling.specs.Stored.{Stored}
 use Rattle.spelling.proofs.Places.{cut}
-use Rattle.spelling.proofs.Stores.{Left, left_start, left_step, left_end, left_room}
-use Rattle.spelling.proofs.Puts.{Put, put_then, put_last}
-use Rattle.spelling.specs.Answers.{answer_text}
+use Rattle.room.specs.declared.writer.Writer.{Writer}
+use Rattle.room.specs.Writes.{Writes, Holds}
+use Rattle.room.proofs.Writers.{Going, going_start, going_step, going_holds, going_end}
 use Rattle.reports.specs.RunReport.{answer_line, answer_lines}
 use Rattle.reports.proofs.RunLines.{line_length_lem, line_short, lines_short}
 
@@ -23,11 +22,6 @@ use Rattle.reports.proofs.RunLines.{line_length_lem, line_short, lines_short}
 -- measured by its two numbers
 pub line_measured : (k a m n : ℕ) → m ≡ length (digits k) → n ≡ length (digits a) → 14 + m + n ≡ length (answer_line k a)
 line_measured k a m n p q = omega (arith, line_length_lem k a)
-
-pub line_stored : (k a : ℕ) {l l₁ l₂ : List ℕ} {at n₁ n₂ : ℕ} → Put l at (answer_text k a) n₁ l₁ → Put l₁ n₁ (10 ∷ []) n₂ l₂
-    → at + length (answer_line k a) ≤ length l → Stored l at (answer_line k a) n₂ l₂
-unfolding answer_line
-line_stored k a p q h = put_then (answer_text k a) (10 ∷ []) p (put_last _ q) h
 
 -- ---- the lines from a place on
 
@@ -72,26 +66,26 @@ module _ (l : List ℕ) where
     pub measured_all : length l ≤ i → n ≡ length (answer_lines 1 l)
     measured_all h = sym (p.total ∙ rw (lines_none l (i + 1) i h) (add-zero n))
 
--- ---- stored line by line
+-- ---- written line by line
 
--- the lines of the first i answers are stored in the room, up to a place; room₀ held what was there before
-pub record Storing (room₀ l room : List ℕ) (at i : ℕ) : Type 0 where
+-- the lines of the first i answers are written
+pub record Written (first : Writer) (l : List ℕ) (out : Writer) (i : ℕ) : Type 0 where
   pub upto : i ≤ length l
-  pub left : Left room₀ 0 (answer_lines 1 l) room at (answer_lines (i + 1) (drop i l))
+  pub going : Going first (answer_lines 1 l) out (answer_lines (i + 1) (drop i l))
 
-module _ (room₀ l : List ℕ) where
-  pub storing_none : Storing room₀ l room₀ 0 0
-  storing_none = record { upto = omega arith; left = left_start room₀ 0 (answer_lines 1 l) }
+module _ (first : Writer) (l : List ℕ) where
+  pub written_none : Written first l first 0
+  written_none = record { upto = omega arith; going = going_start first (answer_lines 1 l) }
 
-  module _ (room : List ℕ) (at i : ℕ) (p : Storing room₀ l room at i) where
-    more : i < length l → Left room₀ 0 (answer_lines 1 l) room at (answer_line (i + 1) (get_or l i 0) ++ answer_lines (i + 1 + 1) (drop (i + 1) l))
-    more h = rw (lines_more l (i + 1) i h, ← add-one (i + 1)) at p.left
+  module _ (out : Writer) (i : ℕ) (p : Written first l out i) where
+    more : i < length l → Going first (answer_lines 1 l) out (answer_line (i + 1) (get_or l i 0) ++ answer_lines (i + 1 + 1) (drop (i + 1) l))
+    more h = rw (lines_more l (i + 1) i h, ← add-one (i + 1)) at p.going
 
-    pub storing_room : i < length l → length (answer_lines 1 l) ≤ length room₀ → at + length (answer_line (i + 1) (get_or l i 0)) ≤ length room
-    storing_room h r = left_room (answer_line (i + 1) (get_or l i 0)) (answer_lines (i + 1 + 1) (drop (i + 1) l)) (more h) (omega arith)
+    pub written_room : i < length l → Holds first (answer_lines 1 l) → Holds out (answer_line (i + 1) (get_or l i 0))
+    written_room h r = going_holds (answer_line (i + 1) (get_or l i 0)) (answer_lines (i + 1 + 1) (drop (i + 1) l)) (more h) r
 
-    pub storing_more : i < length l → (room' : List ℕ) (next : ℕ) → Stored room at (answer_line (i + 1) (get_or l i 0)) next room' → Storing room₀ l room' next (i + 1)
-    storing_more h room' next s = record { upto = omega arith; left = left_step (answer_lines (i + 1 + 1) (drop (i + 1) l)) (more h) s }
+    pub written_more : i < length l → (next : Writer) → Writes out (answer_line (i + 1) (get_or l i 0)) next → Written first l next (i + 1)
+    written_more h next s = record { upto = omega arith; going = going_step (answer_lines (i + 1 + 1) (drop (i + 1) l)) (more h) s }
 
-    pub storing_all : length l ≤ i → Stored room₀ 0 (answer_lines 1 l) at room
-    storing_all h = left_end (rw (lines_none l (i + 1) i h) at p.left)
+    pub written_all : length l ≤ i → Writes first (answer_lines 1 l) out
+    written_all h = going_end (rw (lines_none l (i + 1) i h) at p.going)
