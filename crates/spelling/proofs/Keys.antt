@@ -8,11 +8,12 @@ use lib.Dec.{eqb}
 use lib.ListN.{length, drop, length-append, length-drop}
 use lib.Seq.{drop-drop}
 use borrow.Author.Tests.{eq-eqb, ne_eqb, eqb-true}
-use Rattle.std.specs.Prelude.{Option, Some, None}
+use Rattle.std.specs.Prelude.{Option, Some, None, option_and_then}
+use Rattle.std.specs.Option.{option_or}
 use Rattle.std.proofs.lemmas.Option.{some_pair_parts, none-some}
 use Rattle.common.proofs.Tests.{split, clash}
 use Rattle.spelling.proofs.Places.{Spans}
-use Rattle.spelling.specs.Fields.{Found, is_prefix, behind, tried}
+use Rattle.spelling.specs.Fields.{Found, is_prefix, behind, first_named}
 
 -- a key that was found stands there, and a key that stands there is found
 pub prefix_sound : (key l : List ℕ) → is_prefix key l ≡ true → l ≡ key ++ drop (length key) l
@@ -65,11 +66,12 @@ none_found {a = a} e = absurd (none-some a e)
 
 -- ---- names
 
--- a name that was found stands there, if each other one does
-pub tried_sound : {V : Type 0} (key_of : V → List ℕ) (text : List ℕ) (at : ℕ) (u v : V) (next : ℕ) (other : Found V) → (other ≡ Some (v, next) → Spans text at (key_of v) next)
-    → tried key_of text at u other ≡ Some (v, next) → Spans text at (key_of v) next
-tried_sound key_of text at u v next other f got = split (is_prefix (key_of u) (drop at text))
-    (λ e.
-    let same = same_found (rw e at got) in
-    rw (← same.1, ← same.0) (key_spans (key_of u) text at e))
-    (λ e. f (rw e at got))
+-- the name that was found stands there
+pub named_sound : {V : Type 0} (key_of : V → List ℕ) (text : List ℕ) (at : ℕ) (vs : List V) {v : V} {next : ℕ} → first_named key_of text at vs ≡ Some (v, next) → Spans text at (key_of v) next
+named_sound key_of text at [] e = none_found e
+named_sound key_of text at (u ∷ vs) {v} {next} e = go (behind (key_of u) text at) refl e (λ g. named_sound key_of text at vs g)
+  where
+    go : (b : Option ℕ) → behind (key_of u) text at ≡ b → option_or (option_and_then (λ (place : ℕ). Some (u, place)) b) (first_named key_of text at vs) ≡ Some (v, next)
+        → (first_named key_of text at vs ≡ Some (v, next) → Spans text at (key_of v) next) → Spans text at (key_of v) next
+    go None h g further = further g
+    go (Some place) h g further = let same = same_found g in rw (← same.1, ← same.0) (behind_spans (key_of u) text at h)

@@ -8,7 +8,7 @@ use mathlib.Core.Path.{◌≡◌, refl, ap, ◌∙◌}
 use lib.ListN.{length, drop, length-append}
 use borrow.Author.Tests.{lt-ltb, ltb-true, leb-true}
 use Rattle.std.specs.Prelude.{Some, None}
-use Rattle.common.proofs.Tests.{both, split, clash}
+use Rattle.common.proofs.Tests.{both, split}
 use Rattle.kinds.specs.declared.BenchNo.{BenchNo}
 use Rattle.kinds.specs.declared.SlotNo.{SlotNo}
 use Rattle.spelling.specs.declared.LedgerStep.{LedgerStep}
@@ -19,9 +19,9 @@ use Rattle.spelling.specs.Numbers.{ascii, digits}
 use Rattle.spelling.specs.Spelling.{is_small}
 use Rattle.spelling.specs.LedgerSpelling.{ledger_step_text, most_tag, is_tag, is_scriptable}
 use Rattle.spelling.specs.Fields.{behind, Found, is_prefix, digit_at, number_upto, number_at, field_at}
-use Rattle.spelling.specs.LedgerReading.{as_tag, tag_at, tag_field_at, ledger_key_of, ledger_verb_at, slot_at, sweep_at, ledger_rest_at, ledger_step_at}
+use Rattle.spelling.specs.LedgerReading.{as_tag, tag_at, tag_field_at, ledger_key_of, ledger_verbs, ledger_verb_at, slot_at, sweep_at, ledger_rest_at, ledger_step_at}
 use Rattle.spelling.proofs.Places.{past, Spans, spans_then}
-use Rattle.spelling.proofs.Keys.{same_found, tried_sound, none_found, behind_own, behind_spans}
+use Rattle.spelling.proofs.Keys.{same_found, named_sound, none_found, behind_own, behind_spans}
 use Rattle.spelling.proofs.Decimals.{digits_length}
 use Rattle.spelling.proofs.NumberTrip.{upto_reads, upto_sound, number_reads, number_sound}
 use Rattle.spelling.proofs.LineEnds.{Ends, ends_byte}
@@ -52,7 +52,7 @@ tag_sound text at t next got = go (number_upto 9 text at) refl got
 -- ---- what is written is read
 
 verb_reads : (v : LedgerVerb) (text : List ℕ) (at : ℕ) (rest : List ℕ) → drop at text ≡ ledger_key_of v ++ rest → ledger_verb_at text at ≡ Some (v, at + length (ledger_key_of v))
-unfolding ledger_verb_at ledger_key_of is_prefix
+unfolding ledger_verb_at ledger_key_of behind is_prefix
 verb_reads verb.Join text at rest e = rw e refl
 verb_reads verb.Sweep text at rest e = rw e refl
 verb_reads verb.Close text at rest e = rw e refl
@@ -151,13 +151,6 @@ pub record StepIs (text : List ℕ) (at : ℕ) (s : LedgerStep) (end : ℕ) : Ty
   pub spans : Spans text at (ledger_step_text s) end
   pub scriptable : is_scriptable s ≡ true
 
-verb_sound : (text : List ℕ) (at : ℕ) (v : LedgerVerb) (next : ℕ) → ledger_verb_at text at ≡ Some (v, next) → Spans text at (ledger_key_of v) next
-unfolding ledger_verb_at
-verb_sound text at v next got =
-    tried_sound ledger_key_of text at verb.Sweep v next _ (λ g₁. tried_sound ledger_key_of text at verb.Close v next _
-    (λ g₂. tried_sound ledger_key_of text at verb.HandOut v next _
-    (λ g₃. tried_sound ledger_key_of text at verb.Join v next _ (λ g₄. tried_sound ledger_key_of text at verb.End v next _ (λ g₅. clash (cc)) g₄) g₃) g₂) g₁) got
-
 -- the first number n was read, up to `next`; what the rest makes of it
 module _ (text : List ℕ) (at n next : ℕ) (small : is_small n ≡ true) where
   here_is : (s t : LedgerStep) (end : ℕ) → ◌≡◌ {A = Found LedgerStep} (Some (s, next)) (Some (t, end)) → StepIs text at s next → StepIs text at t end
@@ -197,11 +190,11 @@ module _ (text : List ℕ) (at n next : ℕ) (small : is_small n ≡ true) where
   rest_sound verb.HandOut t end s e = here_is (HandOut n) t end e (record { spans = s; scriptable = small })
 
 pub step_sound : (text : List ℕ) (at : ℕ) (s : LedgerStep) (end : ℕ) → ledger_step_at text at ≡ Some (s, end) → StepIs text at s end
-unfolding ledger_step_at
+unfolding ledger_step_at ledger_verb_at
 step_sound text at s end got =
     let h = found_first (behind (ascii "step=") text at) _ got in
     let p = found_first (ledger_verb_at text h.0) _ h.2 in
     let q = found_first (number_at text p.0.1) _ p.2 in
     let r = number_sound text p.0.1 q.0.0 q.0.1 q.1 in
     rest_sound text at q.0.0 q.0.1 (lt-ltb q.0.0 100000 r.small) p.0.0 s end
-    (spans_then (behind_spans (ascii "step=") text at h.1) (spans_then (verb_sound text h.0 p.0.0 p.0.1 p.1) r.spans)) q.2
+    (spans_then (behind_spans (ascii "step=") text at h.1) (spans_then (named_sound ledger_key_of text h.0 ledger_verbs p.1) r.spans)) q.2

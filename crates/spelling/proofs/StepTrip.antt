@@ -7,7 +7,7 @@ use mathlib.Core.Path.{◌≡◌, refl, ap, ◌∙◌}
 use lib.ListN.{length, drop, length-append}
 use borrow.Author.Tests.{lt-ltb, ltb-true}
 use Rattle.std.specs.Prelude.{Some}
-use Rattle.common.proofs.Tests.{both, clash}
+use Rattle.common.proofs.Tests.{both}
 use Rattle.kinds.specs.declared.BenchNo.{BenchNo}
 use Rattle.kinds.specs.declared.Step.{Step}
 use Rattle.kinds.specs.declared.Step.TheVariants.{Start, Abstain, Leave, Fail, Turn, Arrive, Notice}
@@ -16,9 +16,9 @@ use Rattle.spelling.specs.declared.Verb.TheVariants as verb
 use Rattle.spelling.specs.Numbers.{ascii, digits}
 use Rattle.spelling.specs.Spelling.{world_text, step_text, is_small, is_world, is_writable}
 use Rattle.spelling.specs.Fields.{behind, is_prefix, digit_at, number_at, field_at, Found}
-use Rattle.spelling.specs.Reading.{world_at, key_of, rare_verb_at, verb_at, start_at, from_at, rest_at, step_at}
+use Rattle.spelling.specs.Reading.{world_at, key_of, verbs, verb_at, start_at, from_at, rest_at, step_at}
 use Rattle.spelling.proofs.Places.{past, Spans, spans_then}
-use Rattle.spelling.proofs.Keys.{same_found, tried_sound, behind_spans}
+use Rattle.spelling.proofs.Keys.{same_found, named_sound, behind_spans}
 use Rattle.spelling.proofs.NumberTrip.{number_reads, number_sound}
 use Rattle.spelling.proofs.LineEnds.{Ends, ends_byte}
 use Rattle.spelling.proofs.FieldTrip.{both_true, space_stops, field_reads, field_sound, found_first}
@@ -32,7 +32,7 @@ ends_stop text at n e = let b = ends_byte text at n e in record { no_digit = b.0
 -- ---- what is written is read
 
 verb_reads : (v : Verb) (text : List ℕ) (at : ℕ) (rest : List ℕ) → drop at text ≡ key_of v ++ rest → verb_at text at ≡ Some (v, at + length (key_of v))
-unfolding verb_at rare_verb_at key_of is_prefix
+unfolding verb_at key_of behind is_prefix
 verb_reads verb.Start text at rest e = rw e refl
 verb_reads verb.Abstain text at rest e = rw e refl
 verb_reads verb.Leave text at rest e = rw e refl
@@ -126,17 +126,6 @@ pub record StepIs (limit : ℕ) (text : List ℕ) (at : ℕ) (s : Step) (end : �
   pub spans : Spans text at (step_text s) end
   pub writable : is_writable limit s ≡ true
 
-rare_sound : (text : List ℕ) (at : ℕ) (v : Verb) (next : ℕ) → rare_verb_at text at ≡ Some (v, next) → Spans text at (key_of v) next
-unfolding rare_verb_at
-rare_sound text at v next got =
-    tried_sound key_of text at verb.Start v next _ (λ g₁. tried_sound key_of text at verb.Abstain v next _ (λ g₂. tried_sound key_of text at verb.Leave v next _
-    (λ g₃. tried_sound key_of text at verb.Fail v next _ (λ g₄. clash (cc)) g₃) g₂) g₁) got
-
-verb_sound : (text : List ℕ) (at : ℕ) (v : Verb) (next : ℕ) → verb_at text at ≡ Some (v, next) → Spans text at (key_of v) next
-unfolding verb_at
-verb_sound text at v next got =
-    tried_sound key_of text at verb.Arrive v next _ (λ g₁. tried_sound key_of text at verb.Turn v next _ (λ g₂. tried_sound key_of text at verb.Notice v next _ (λ g₃. rare_sound text at v next g₃) g₂) g₁) got
-
 -- the bench b was read, up to `next`; what the rest makes of it
 module _ (limit : ℕ) (text : List ℕ) (at b next : ℕ) (small : is_small b ≡ true) where
   here_is : (s t : Step) (end : ℕ) → ◌≡◌ {A = Found Step} (Some (s, next)) (Some (t, end)) → StepIs limit text at s next → StepIs limit text at t end
@@ -176,11 +165,11 @@ module _ (limit : ℕ) (text : List ℕ) (at b next : ℕ) (small : is_small b �
   rest_sound verb.Notice t end lim s e = from_sound Notice t end e (λ f hf r. record { spans = spans_then s r; writable = both_true small hf })
 
 pub step_sound : (limit : ℕ) (text : List ℕ) (at : ℕ) (s : Step) (end : ℕ) → limit ≤ 32 → step_at limit text at ≡ Some (s, end) → StepIs limit text at s end
-unfolding step_at
+unfolding step_at verb_at
 step_sound limit text at s end lim got =
     let h = found_first (behind (ascii "step=") text at) _ got in
     let p = found_first (verb_at text h.0) _ h.2 in
     let q = found_first (number_at text p.0.1) _ p.2 in
     let r = number_sound text p.0.1 q.0.0 q.0.1 q.1 in
     rest_sound limit text at q.0.0 q.0.1 (lt-ltb q.0.0 100000 r.small) p.0.0 s end lim
-    (spans_then (behind_spans (ascii "step=") text at h.1) (spans_then (verb_sound text h.0 p.0.0 p.0.1 p.1) r.spans)) q.2
+    (spans_then (behind_spans (ascii "step=") text at h.1) (spans_then (named_sound key_of text h.0 verbs p.1) r.spans)) q.2

@@ -1,5 +1,6 @@
 -- How keys, numbers, steps and lines are read, place by place, in the way of the code. This file need not be believed: see Reading and LedgerReading.
 use Rattle.std.specs.Prelude.{ℕ, zero, suc, ◌+◌, ◌-◌, ◌*◌, ◌^◌, Bool, true, false, cond, List, [], ◌∷◌, leb, ltb, eqb, length, get_or, take, drop, Option, Some, None, option_and_then}
+use Rattle.std.specs.Option.{option_or}
 
 -- ---- what is found
 
@@ -57,9 +58,16 @@ field_at key text at = do
 
 -- ---- names
 
--- a name of which the key stands at a place, or else another
-abbrev pub tried : {V : Type 0} → (V → List ℕ) → List ℕ → ℕ → V → Found V → Found V
-tried key_of text at v other = cond (is_prefix (key_of v) (drop at text)) (Some (v, at + length (key_of v))) other
+-- a name of which the key stands at a place
+abbrev pub named : {V : Type 0} → (V → List ℕ) → List ℕ → ℕ → V → Found V
+named key_of text at v = do
+  next ← behind (key_of v) text at
+  Some (v, next)
+
+-- the first of many
+abbrev pub first_named : {V : Type 0} → (V → List ℕ) → List ℕ → ℕ → List V → Found V
+first_named key_of text at [] = None
+first_named key_of text at (v ∷ vs) = option_or (named key_of text at v) (first_named key_of text at vs)
 
 -- ---- lines
 

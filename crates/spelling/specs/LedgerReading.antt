@@ -1,6 +1,6 @@
 -- How a ledger script is read, place by place, in the way of the code. This file need not be believed: by `reads_iff_spelled` and
 -- `reads_in_turn` of proofs/LedgerTheorems.antt a line reads to a step exactly when it is the step's spelling, and reading gives the lines of `lines_of`.
-use Rattle.std.specs.Prelude.{ℕ, cond, List, map, Option, Some, None}
+use Rattle.std.specs.Prelude.{ℕ, cond, List, [], ◌∷◌, map, Option, Some, None}
 use Rattle.kinds.specs.declared.BenchNo.{BenchNo}
 use Rattle.kinds.specs.declared.SlotNo.{SlotNo}
 use Rattle.spelling.specs.declared.LedgerStep.{LedgerStep}
@@ -10,7 +10,7 @@ use Rattle.spelling.specs.declared.LedgerVerb.TheVariants as verb
 use Rattle.spelling.specs.Numbers.{ascii}
 use Rattle.spelling.specs.Lines.{lines_of}
 use Rattle.spelling.specs.LedgerSpelling.{is_tag}
-use Rattle.spelling.specs.Fields.{Found, ◌>>=◌, behind, number_upto, number_at, field_at, tried, whole, line_from}
+use Rattle.spelling.specs.Fields.{Found, ◌>>=◌, behind, number_upto, number_at, field_at, first_named, whole, line_from}
 
 -- ---- tags
 
@@ -39,10 +39,11 @@ ledger_key_of verb.End = ascii "end sender="
 ledger_key_of verb.HandOut = ascii "handout room="
 
 -- first those that a script has most of
+abbrev pub ledger_verbs : List LedgerVerb
+ledger_verbs = verb.Sweep ∷ verb.Close ∷ verb.HandOut ∷ verb.Join ∷ verb.End ∷ []
+
 unfoldable pub ledger_verb_at : List ℕ → ℕ → Found LedgerVerb
-ledger_verb_at text at =
-    tried ledger_key_of text at verb.Sweep (tried ledger_key_of text at verb.Close (tried ledger_key_of text at verb.HandOut
-    (tried ledger_key_of text at verb.Join (tried ledger_key_of text at verb.End None))))
+ledger_verb_at text at = first_named ledger_key_of text at ledger_verbs
 
 -- what follows the sender of a step
 unfoldable pub slot_at : (BenchNo → SlotNo → LedgerStep) → List ℕ → ℕ → ℕ → Found LedgerStep
