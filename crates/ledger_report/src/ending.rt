@@ -1,5 +1,5 @@
 // What stands behind the answers' lines: the senders' lines, the cursor's and the totals'.
-ghost use Rattle.std.specs.Prelude.{◌+◌, ◌≤◌, length};
+ghost use Rattle.std.specs.Prelude.{◌≡◌, ◌+◌, ◌≤◌, length};
 ghost use Rattle.kinds.specs.Sizes.{benches_of};
 ghost use Rattle.spelling.specs.Stored.{Stored};
 ghost use Rattle.reports.specs.LedgerReport.{cursor_line, last_lines};
@@ -20,7 +20,8 @@ pub(crate) fn store_end(
     refused: u32,
     size: Size,
 ) -> usize
-    requires { at + length (last_lines size (book_of ledger.now) lines refused) ≤ length room.old }
+    requires held_value { ledger.now.cursor.held ≡ length (book_of ledger.now).held }
+    requires lines_in_bounds { at + length (last_lines size (book_of ledger.now) lines refused) ≤ length room.old }
     ensures { Stored room.old at (last_lines size (book_of ledger.now) lines refused) result room.new }
 {
     let a = store_senders(room, at, ledger, size);

@@ -43,11 +43,11 @@ fn store_sender(room: &mut [u8], at: usize, sender: BenchNo, row: Row) -> usize
     }
 }
 
-fn store_slots(room: &mut [u8], at: usize, sender: BenchNo, first: SlotNo, open: SlotNo) -> usize
-    requires { at + length (slots_text sender.0 first.0 open.0) ≤ length room.old }
-    ensures { Stored room.old at (slots_text sender.0 first.0 open.0) result room.new }
+fn store_slots(room: &mut [u8], at: usize, sender: BenchNo, first: SlotNo, opened: SlotNo) -> usize
+    requires { at + length (slots_text sender.0 first.0 opened.0) ≤ length room.old }
+    ensures { Stored room.old at (slots_text sender.0 first.0 opened.0) result room.new }
 {
     let a = put_field(room, at, b"sender=", sender.0);
     let b = put_field(room, a, b" first=", first.0);
-    put_field(room, b, b" open=", open.0)
+    put_field(room, b, b" open=", opened.0)
 }

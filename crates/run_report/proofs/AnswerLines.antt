@@ -46,19 +46,17 @@ module _ (l : List ℕ) (n m : ℕ) where
 
 -- the lines of the first i answers have n bytes
 pub record Measured (l : List ℕ) (i n : ℕ) : Type 0 where
-  pub upto : i ≤ length l
   pub short : n ≤ 34 * i
   pub total : length (answer_lines 1 l) ≡ n + length (answer_lines (i + 1) (drop i l))
 
 module _ (l : List ℕ) where
   pub measured_none : Measured l 0 0
-  measured_none = record { upto = omega arith; short = omega arith; total = omega arith }
+  measured_none = record { short = omega arith; total = omega arith }
 
   module _ (i n : ℕ) (p : Measured l i n) where
     pub measured_more : i < length l → (d : ℕ) → d ≡ length (answer_line (i + 1) (get_or l i 0)) → Measured l (i + 1) (n + d)
     measured_more h d e =
         record {
-          upto = omega arith;
           short = omega (arith, p.short, line_short (i + 1) (get_or l i 0) d e);
           total = p.total ∙ rw (lines_more l (i + 1) i h, length-append, ← add-one (i + 1)) (omega arith);
         }
@@ -68,24 +66,23 @@ module _ (l : List ℕ) where
 
 -- ---- written line by line
 
--- the lines of the first i answers are written
-pub record Written (first : Writer) (l : List ℕ) (out : Writer) (i : ℕ) : Type 0 where
-  pub upto : i ≤ length l
-  pub going : Going first (answer_lines 1 l) out (answer_lines (i + 1) (drop i l))
+-- the lines from the answer i on are left to be written
+abbrev pub Writing : Writer → List ℕ → Writer → ℕ → Type 0
+Writing first l out i = Going first (answer_lines 1 l) out (answer_lines (i + 1) (drop i l))
 
 module _ (first : Writer) (l : List ℕ) where
-  pub written_none : Written first l first 0
-  written_none = record { upto = omega arith; going = going_start first (answer_lines 1 l) }
+  pub writing_none : Writing first l first 0
+  writing_none = going_start first (answer_lines 1 l)
 
-  module _ (out : Writer) (i : ℕ) (p : Written first l out i) where
+  module _ (out : Writer) (i : ℕ) (p : Writing first l out i) where
     more : i < length l → Going first (answer_lines 1 l) out (answer_line (i + 1) (get_or l i 0) ++ answer_lines (i + 1 + 1) (drop (i + 1) l))
-    more h = rw (lines_more l (i + 1) i h, ← add-one (i + 1)) at p.going
+    more h = rw (lines_more l (i + 1) i h, ← add-one (i + 1)) at p
 
-    pub written_room : i < length l → Holds first (answer_lines 1 l) → Holds out (answer_line (i + 1) (get_or l i 0))
-    written_room h r = going_holds (answer_line (i + 1) (get_or l i 0)) (answer_lines (i + 1 + 1) (drop (i + 1) l)) (more h) r
+    pub writing_room : i < length l → Holds first (answer_lines 1 l) → Holds out (answer_line (i + 1) (get_or l i 0))
+    writing_room h r = going_holds (answer_line (i + 1) (get_or l i 0)) (answer_lines (i + 1 + 1) (drop (i + 1) l)) (more h) r
 
-    pub written_more : i < length l → (next : Writer) → Writes out (answer_line (i + 1) (get_or l i 0)) next → Written first l next (i + 1)
-    written_more h next s = record { upto = omega arith; going = going_step (answer_lines (i + 1 + 1) (drop (i + 1) l)) (more h) s }
+    pub writing_more : i < length l → (next : Writer) → Writes out (answer_line (i + 1) (get_or l i 0)) next → Writing first l next (i + 1)
+    writing_more h next s = going_step (answer_lines (i + 1 + 1) (drop (i + 1) l)) (more h) s
 
-    pub written_all : length l ≤ i → Writes first (answer_lines 1 l) out
-    written_all h = going_end (rw (lines_none l (i + 1) i h) at p.going)
+    pub writing_all : length l ≤ i → Writes first (answer_lines 1 l) out
+    writing_all h = going_end (rw (lines_none l (i + 1) i h) at p)

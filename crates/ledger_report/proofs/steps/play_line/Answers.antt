@@ -1,6 +1,20 @@
--- `play_line` meets its contract: a step is played, and a malformed line changes nothing.
-use Rattle.ledger_report.proofs.OnLedgers.{play_malformed}
+-- `play_line`: a malformed line is refused, and each step is the ledger's own.
+use Rattle.std.proofs.Common.{◌≡◌, rules, None, Err, ok_or}
+use Rattle.kinds.specs.declared.Refusal.TheVariants as refusal
+use Rattle.ledger_report.proofs.OnLedgers.{malformed_plays, join_plays, sweep_plays, close_plays}
 use Rattle.ledger_report.proofs.steps.play_line.Goals as goal
 
-pub returns-in-Malformed : goal.returns-in-Malformed
-returns-in-Malformed c = search play_malformed
+pub returns-in_err-sender : goal.returns-in_err-sender
+returns-in_err-sender c =
+    let none : c.args.line ≡ None = c.in_err-sender.ensures.ok_part in
+    let err : c.from_residual.result ≡ Err refusal.Malformed = search rules in
+    rw (none, err) (malformed_plays c.args.size c.args.ledger.now c.args.tags.now)
+
+pub returns-in-Join : goal.returns-in-Join
+returns-in-Join c = rw (c.in_ok-sender.ensures.ok_part, c.in-Join.is, c.and.ensures) (join_plays _ _ _ _ _ _ _ c.join.ensures)
+
+pub returns-in-Sweep : goal.returns-in-Sweep
+returns-in-Sweep c = rw (c.in_ok-sender.ensures.ok_part, c.in-Sweep.is, c.and-in-Sweep.ensures) (sweep_plays _ _ _ _ _ _ _ c.sweep.ensures)
+
+pub returns-in-Close : goal.returns-in-Close
+returns-in-Close c = rw (c.in_ok-sender.ensures.ok_part, c.in-Close.is, c.and-in-Close.ensures) (close_plays _ _ _ _ _ _ c.close.ensures)
