@@ -58,6 +58,9 @@ module _ {first : Writer} {total : List ℕ} where
   pub going_holds : {a : Writer} (w rest : List ℕ) → Going first total a (w ++ rest) → Holds first total → Holds a w
   going_holds w rest p h = left_room w rest p.left h
 
+  pub going_put : {a b : Writer} (w rest : List ℕ) → Going first total a (w ++ rest) → Holds first total → Puts a w b → Going first total b rest
+  going_put w rest p h q = going_step rest p (put_last w q (going_holds w rest p h))
+
   pub going_end : {a : Writer} → Going first total a [] → Writes first total a
   going_end p = record { same_room = p.same_room; stored = left_end p.left }
 

@@ -1,23 +1,23 @@
--- `store_step` meets its contract: by the step, as the definition goes.
+-- `write_step`: by the step, as the definition goes.
 use Rattle.spelling.specs.Spelling.{step_text}
-use Rattle.spelling.proofs.Puts.{put_last}
-use Rattle.run_text.proofs.writing.store_step.Goals as goal
+use Rattle.room.proofs.Writers.{put_last}
+use Rattle.run_text.proofs.writing.write_step.Goals as goal
 
-pub store_start-requires : goal.store_start-requires
+pub write_start-requires : goal.write_start-requires
 unfolding step_text
-store_start-requires c = rw c.in-Start.is at c.requires
+write_start-requires c = rw c.in-Start.is at c.requires
 
-pub store_two-requires : goal.store_two-requires
+pub write_sender-requires : goal.write_sender-requires
 unfolding step_text
-store_two-requires c = rw c.in-Arrive.is at c.requires
+write_sender-requires c = rw c.in-Arrive.is at c.requires
 
-pub store_two-requires-in-Notice : goal.store_two-requires-in-Notice
+pub write_sender-requires-in-Notice : goal.write_sender-requires-in-Notice
 unfolding step_text
-store_two-requires-in-Notice c = rw c.in-Notice.is at c.requires
+write_sender-requires-in-Notice c = rw c.in-Notice.is at c.requires
 
 pub returns-in-Start : goal.returns-in-Start
 unfolding step_text
-returns-in-Start c = rw c.in-Start.is c.store_start.ensures
+returns-in-Start c = rw c.in-Start.is c.write_start.ensures
 
 pub returns-in-Abstain : goal.returns-in-Abstain
 unfolding step_text
@@ -37,8 +37,8 @@ returns-in-Turn c = rw c.in-Turn.is (put_last _ c.put_field-in-Turn.ensures (rw 
 
 pub returns-in-Arrive : goal.returns-in-Arrive
 unfolding step_text
-returns-in-Arrive c = rw c.in-Arrive.is c.store_two.ensures
+returns-in-Arrive c = rw c.in-Arrive.is c.write_sender.ensures
 
 pub returns-in-Notice : goal.returns-in-Notice
 unfolding step_text
-returns-in-Notice c = rw c.in-Notice.is c.store_two-in-Notice.ensures
+returns-in-Notice c = rw c.in-Notice.is c.write_sender-in-Notice.ensures
