@@ -11,20 +11,36 @@ use spelling::{Found, Verb};
 use text::{bytes, numbers};
 
 // The step's name at a place: first those that a run has most of.
+#[tactic(auto, unfolding(spelling::specs::Reading::verb_at, spelling::specs::Reading::key_of))]
 fn verb_at(text: &[u8], at: usize) -> Found<Verb>
     ensures { result ≡ verb_at text.now at }
 {
-    let named = |verb, key| Some((verb, bytes::behind(text, at, key)?));
-    named(Verb::Arrive, b"arrive bench=")
-        .or_else(|| named(Verb::Turn, b"turn bench="))
-        .or_else(|| named(Verb::Notice, b"notice bench="))
-        .or_else(|| named(Verb::Start, b"start bench="))
-        .or_else(|| named(Verb::Abstain, b"abstain bench="))
-        .or_else(|| named(Verb::Leave, b"leave bench="))
-        .or_else(|| named(Verb::Fail, b"fail bench="))
+    if let Some(next) = bytes::behind(text, at, b"arrive bench=") {
+        return Some((Verb::Arrive, next));
+    }
+    if let Some(next) = bytes::behind(text, at, b"turn bench=") {
+        return Some((Verb::Turn, next));
+    }
+    if let Some(next) = bytes::behind(text, at, b"notice bench=") {
+        return Some((Verb::Notice, next));
+    }
+    if let Some(next) = bytes::behind(text, at, b"start bench=") {
+        return Some((Verb::Start, next));
+    }
+    if let Some(next) = bytes::behind(text, at, b"abstain bench=") {
+        return Some((Verb::Abstain, next));
+    }
+    if let Some(next) = bytes::behind(text, at, b"leave bench=") {
+        return Some((Verb::Leave, next));
+    }
+    if let Some(next) = bytes::behind(text, at, b"fail bench=") {
+        return Some((Verb::Fail, next));
+    }
+    None
 }
 
 // What follows the bench of a start: its value and its world.
+#[tactic(auto, unfolding(spelling::specs::Reading::start_at))]
 fn start_at(text: &[u8], at: usize, bench: BenchNo, size: Size) -> Found<Step>
     ensures { result ≡ start_at (benches_of size) text.now at bench.0 }
 {
@@ -43,6 +59,7 @@ fn from_at(text: &[u8], at: usize) -> Found<BenchNo>
 }
 
 // What follows the bench of a step.
+#[tactic(auto, unfolding(spelling::specs::Reading::rest_at, spelling::specs::Reading::from_at))]
 fn rest_at(text: &[u8], at: usize, verb: Verb, bench: BenchNo, size: Size) -> Found<Step>
     ensures { result ≡ rest_at (benches_of size) text.now at verb bench.0 }
 {
@@ -58,6 +75,7 @@ fn rest_at(text: &[u8], at: usize, verb: Verb, bench: BenchNo, size: Size) -> Fo
 }
 
 // The step that is spelled from a place on.
+#[tactic(auto, unfolding(spelling::specs::Reading::step_at))]
 pub(crate) fn step_at(text: &[u8], at: usize, size: Size) -> Found<Step>
     ensures { result ≡ step_at (benches_of size) text.now at }
 {

@@ -41,6 +41,7 @@ pub(crate) fn world_at(text: &[u8], from: usize, size: Size) -> Found<u32>
 }
 
 // Whether a world is not empty and names only benches that there are.
+#[tactic(auto, unfolding(spelling::specs::Spelling::is_world))]
 pub(crate) fn is_world(world: u32, size: Size) -> bool
     ensures { result ≡ is_world (benches_of size) world }
 {

@@ -20,6 +20,7 @@ fn is_small(number: u32) -> bool
 }
 
 // Whether a step can be written.
+#[tactic(auto, unfolding(spelling::specs::Spelling::is_writable))]
 fn is_writable(step: Step, size: Size) -> bool
     ensures { result ≡ is_writable (benches_of size) step }
 {

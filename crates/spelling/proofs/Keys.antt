@@ -75,3 +75,11 @@ named_sound key_of text at (u ∷ vs) {v} {next} e = go (behind (key_of u) text 
         → (first_named key_of text at vs ≡ Some (v, next) → Spans text at (key_of v) next) → Spans text at (key_of v) next
     go None h g further = further g
     go (Some place) h g further = let same = same_found g in rw (← same.1, ← same.0) (behind_spans (key_of u) text at h)
+
+-- as the code finds it, key after key
+module _ {V : Type 0} (key_of : V → List ℕ) (text : List ℕ) (at : ℕ) (v : V) (vs : List V) where
+  pub named_first : {next : ℕ} → Some next ≡ behind (key_of v) text at → Some (v, next) ≡ first_named key_of text at (v ∷ vs)
+  named_first e = rw (← e) refl
+
+  pub named_later : None ≡ behind (key_of v) text at → {found : Found V} → found ≡ first_named key_of text at vs → found ≡ first_named key_of text at (v ∷ vs)
+  named_later e q = q ∙ rw (← e) refl

@@ -28,23 +28,23 @@ pow_next b = rw (← add-one b) (pow-add 2 b 1)
 
 -- ---- one member read
 
-module _ (limit : ℕ) (text : List ℕ) (at last : ℕ) {n : Found ℕ} (p : n ≡ number_at text at) where
-  pub member_none : n ≡ None → None ≡ member_at limit text at last
+module _ (limit : ℕ) (text : List ℕ) (at last : ℕ) where
+  pub member_none : None ≡ number_at text at → None ≡ member_at limit text at last
   unfolding member_at
-  member_none q = rw (← p, q) refl
+  member_none q = rw (← q) refl
 
-  module _ (b next : ℕ) (q : n ≡ Some (b, next)) where
+  module _ (b next : ℕ) (q : ◌≡◌ {A = Found ℕ} (Some (b, next)) (number_at text at)) where
     pub member_low : b ≤ last → None ≡ member_at limit text at last
     unfolding member_at
-    member_low h = rw (← p, q) (rw (le-ltb last b h) refl)
+    member_low h = rw (← q) (rw (le-ltb last b h) refl)
 
     pub member_high : last < b → limit < b → None ≡ member_at limit text at last
     unfolding member_at
-    member_high h k = rw (← p, q) (rw (lt-ltb last b h, lt-leb b limit k) refl)
+    member_high h k = rw (← q) (rw (lt-ltb last b h, lt-leb b limit k) refl)
 
     pub member_got : last < b → b ≤ limit → Some (b, next) ≡ member_at limit text at last
     unfolding member_at
-    member_got h k = rw (← p, q) (rw (lt-ltb last b h, le-leb b limit k) refl)
+    member_got h k = rw (← q) (rw (lt-ltb last b h, le-leb b limit k) refl)
 
 pub record MemberIs (limit : ℕ) (text : List ℕ) (at last b next : ℕ) : Type 0 where
   pub number : number_at text at ≡ Some (b, next)
@@ -55,17 +55,23 @@ pub member_sound : (limit : ℕ) (text : List ℕ) (at last b next : ℕ) → me
 member_sound limit text at last b next got = go (number_at text at) refl
   where
     go : (n : Found ℕ) → number_at text at ≡ n → MemberIs limit text at last b next
-    go None e = none_found (member_none limit text at last refl e ∙ got)
+    go None e = none_found (member_none limit text at last (sym e) ∙ got)
     go (Some (v, n)) e =
-        ⊎_elim (λ (low : v ≤ last). none_found (member_low limit text at last refl v n e low ∙ got))
+        ⊎_elim (λ (low : v ≤ last). none_found (member_low limit text at last v n (sym e) low ∙ got))
         (λ (up : last < v).
         ⊎_elim (λ (h : v ≤ limit).
-        let same : number_at text at ≡ Some (b, next) = e ∙ (member_got limit text at last refl v n e up h ∙ got) in
+        let same : number_at text at ≡ Some (b, next) = e ∙ (member_got limit text at last v n (sym e) up h ∙ got) in
         let a : v ≡ b = (same_found (sym e ∙ same)).0 in
         record { number = same; above = omega arith; most = omega arith })
-        (λ (h : limit < v). none_found (member_high limit text at last refl v n e up h ∙ got))
+        (λ (h : limit < v). none_found (member_high limit text at last v n (sym e) up h ∙ got))
         (le_or_lt v limit))
         (le_or_lt v last)
+
+-- ---- a world read
+
+bit_more : (world last b : ℕ) → world < 2 ^ last → last < b → world + bit_of b < 2 ^ b
+bit_more world last zero h k = absurd (omega arith)
+bit_more world last (suc b) h k = let below : last ≤ b = omega arith in rw sub-one (omega (arith, pow_next b, pow_mono below))
 
 -- ---- a comma
 
@@ -78,11 +84,11 @@ comma_not text at e h =
     let stands : drop at text ≡ (44 ∷ []) ++ drop (at + 1) text = cut text at within ∙ ap (λ (c : ℕ). c ∷ drop (at + 1) text) h in
     none_found (sym e ∙ behind_own (44 ∷ []) text at (drop (at + 1) text) stands)
 
--- ---- a world read
-
-bit_more : (world last b : ℕ) → world < 2 ^ last → last < b → world + bit_of b < 2 ^ b
-bit_more world last zero h k = absurd (omega arith)
-bit_more world last (suc b) h k = let below : last ≤ b = omega arith in rw sub-one (omega (arith, pow_next b, pow_mono below))
+-- a bench's bit as a word of 32 bits has it
+pub word_bit : (b : ℕ) {bit : ℕ} → bit ≡ 2 ^ (b - 1) % 2 ^ 32 → 0 < b → b ≤ 32 → bit ≡ bit_of b
+word_bit b e pos top =
+    let below : b - 1 ≤ 31 = omega arith in
+    omega (arith, pow_mono below)
 
 -- the reader stands at `at`, behind the bench `last`, with the members so far, and there is room for all that may follow
 pub record Listed (limit : ℕ) (text : List ℕ) (from at last world : ℕ) : Type 0 where
@@ -95,18 +101,18 @@ pub listed_none : (limit : ℕ) (text : List ℕ) (from : ℕ) → Listed limit 
 unfolding world_at
 listed_none limit text from = record { room = limit; enough = omega arith; under = lit< tt; rest = refl }
 
-module _ (limit : ℕ) (text : List ℕ) (from at last world : ℕ) (p : Listed limit text from at last world) {n : Found ℕ} (e : n ≡ member_at limit text at last) where
-  pub listed_fails : n ≡ None → None ≡ world_at limit text from
+module _ (limit : ℕ) (text : List ℕ) (from at last world : ℕ) (p : Listed limit text from at last world) where
+  pub listed_fails : None ≡ member_at limit text at last → None ≡ world_at limit text from
   unfolding members_at
   listed_fails q = sym (p.rest ∙ fails p.room)
     where
       fails : (room : ℕ) → members_at room limit text at last world ≡ None
       fails zero = refl
-      fails (suc room) = rw (← e, q) refl
+      fails (suc room) = rw (← q) refl
 
-  module _ (b next : ℕ) (q : n ≡ Some (b, next)) where
+  module _ (b next : ℕ) (q : ◌≡◌ {A = Found ℕ} (Some (b, next)) (member_at limit text at last)) where
     pub listed_member : MemberIs limit text at last b next
-    listed_member = member_sound limit text at last b next (sym e ∙ q)
+    listed_member = member_sound limit text at last b next (sym q)
 
     -- what follows the member
     follows : world_at limit text from ≡ cond (eqb (get_or text next 0) 44) (members_at (p.room - 1) limit text (next + 1) b (world + bit_of b)) (Some (world + bit_of b, next))
@@ -114,21 +120,24 @@ module _ (limit : ℕ) (text : List ℕ) (from at last world : ℕ) (p : Listed 
     follows =
         let m = listed_member in
         let more : p.room ≡ suc (p.room - 1) = omega (arith, p.enough, m.above, m.most) in
-        p.rest ∙ ap (λ (r : ℕ). members_at r limit text at last world) more ∙ rw (← e, q) refl
+        p.rest ∙ ap (λ (r : ℕ). members_at r limit text at last world) more ∙ rw (← q) refl
 
-    module _ {bit : ℕ} (s : bit ≡ bit_of b) where
+    module _ (k : limit ≤ 32) {bit : ℕ} (w : bit ≡ 2 ^ (b - 1) % 2 ^ 32) where
+      s : bit ≡ bit_of b
+      s = let m = listed_member in word_bit b w (omega (arith, m.above)) (omega (arith, m.most))
+
       pub listed_under : world + bit < 2 ^ b
       listed_under = rw s (bit_more world last b p.under listed_member.above)
 
-      pub listed_fits : limit ≤ 32 → world + bit < 2 ^ 32
-      listed_fits k = let m = listed_member in let c : b ≤ 32 = omega (arith, m.most) in omega (arith, listed_under, pow_mono c)
+      pub listed_fits : world + bit < 2 ^ 32
+      listed_fits = let m = listed_member in let c : b ≤ 32 = omega (arith, m.most) in omega (arith, listed_under, pow_mono c)
 
-      pub listed_last : behind (44 ∷ []) text next ≡ None → Some (world + bit, next) ≡ world_at limit text from
-      listed_last k = sym (follows ∙ rw (ne_eqb (get_or text next 0) 44 (comma_not text next k), s) refl)
+      pub listed_last : None ≡ behind (44 ∷ []) text next → Some (world + bit, next) ≡ world_at limit text from
+      listed_last q = sym (follows ∙ rw (ne_eqb (get_or text next 0) 44 (comma_not text next (sym q)), s) refl)
 
-      pub listed_more : {further : ℕ} → behind (44 ∷ []) text next ≡ Some further → Listed limit text from further b (world + bit)
-      listed_more {further} k =
-          let c = comma_is text next k in
+      pub listed_more : {further : ℕ} → Some further ≡ behind (44 ∷ []) text next → Listed limit text from further b (world + bit)
+      listed_more {further} q =
+          let c = comma_is text next (sym q) in
           let m = listed_member in
           record {
             room = p.room - 1;

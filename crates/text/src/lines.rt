@@ -13,6 +13,7 @@ fn ends_at(text: &[u8], end: usize) -> bool
 }
 
 // Where a line ends, the next begins: behind byte 10, if that stands there.
+#[tactic(auto, unfolding(spelling::specs::Fields::next_from))]
 fn next_from(text: &[u8], end: usize) -> usize
     ensures { result ≡ next_from text.now end }
 {
@@ -21,6 +22,7 @@ fn next_from(text: &[u8], end: usize) -> usize
 
 // What the line says that begins at a place, and where the next begins. `found` is the step that is spelled at its front: it is what
 // the line says if the line ends behind it. Only a line that says nothing is looked at twice, the second time for its end.
+#[tactic(auto, unfolding(spelling::specs::Fields::next_at))]
 pub fn ended<S: Copy>(text: &[u8], at: usize, found: Found<S>) -> (Option<S>, usize)
     ensures { result ≡ ended text.now at found }
 {

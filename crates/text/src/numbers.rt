@@ -38,6 +38,7 @@ fn number_upto(text: &[u8], at: usize, more: usize) -> Found<u64>
 }
 
 // The number at a place.
+#[tactic(auto, unfolding(spelling::specs::Fields::number_at))]
 pub fn number_at(text: &[u8], at: usize) -> Found<u32>
     ensures { result ≡ number_at text.now at }
 {
@@ -46,6 +47,7 @@ pub fn number_at(text: &[u8], at: usize) -> Found<u32>
 }
 
 // The tag at a place.
+#[tactic(auto, unfolding(spelling::specs::LedgerReading::tag_at))]
 pub fn tag_at(text: &[u8], at: usize) -> Found<u32>
     ensures { result ≡ tag_at text.now at }
 {
@@ -54,6 +56,7 @@ pub fn tag_at(text: &[u8], at: usize) -> Found<u32>
 }
 
 // A key at a place, and the number behind it.
+#[tactic(auto, unfolding(spelling::specs::Fields::field_at))]
 pub fn field_at(text: &[u8], at: usize, key: &[u8]) -> Found<u32>
     ensures { result ≡ field_at key.now text.now at }
 {
