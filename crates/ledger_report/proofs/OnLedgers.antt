@@ -138,3 +138,10 @@ module _ (size : Size) (x : Ledger) (out : List ℕ) (places : ℕ) (room : leng
       → MatchResult h (λ k. r ≡ Ok (Some k)) (λ e. r ≡ Err e) → Plays size x out (Some (script.HandOut places)) r x' (out₁ ++ drop m out)
   hand_out_plays (Ok k) r a e = rw e (done_plays k a)
   hand_out_plays (Err d) r a e = rw e (refused_plays d a)
+
+-- the count of a hand-out that is done is mapped into `Some`
+pub mapped : (h : Result ℕ Refusal) (r : Result (Option ℕ) Refusal) (P : ℕ → Option ℕ → Type 0) → ((k : ℕ) (y : Option ℕ) → P k y → y ≡ Some k)
+    → MatchResult h (λ k. IsOkAnd r (P k)) (λ e. r ≡ Err e) → MatchResult h (λ k. r ≡ Ok (Some k)) (λ e. r ≡ Err e)
+mapped (Ok k) (Ok y) P f p = ap Ok (f k y p)
+mapped (Ok k) (Err e) P f p = absurd p
+mapped (Err e) r P f p = p

@@ -91,12 +91,12 @@ module _ (size : Size) (x : Ledger) (tags : List ℕ) (y : Option LedgerStep) (r
   abbrev given : List ℕ
   given = (ledger_answer_to size (book_of x) y).tags
 
-  pub count_inside : (count_of r) ≤ length tags'
+  pub count_inside : count_of r ≤ length tags'
   unfolding laid
   count_inside = omega (arith, q.count_is, ap length q.out_is, length-append given (drop (length given) tags))
 
-  pub front_few : length (take (count_of r) tags') ≤ most_held
-  front_few = omega (arith, length-take-le (count_of r) tags' count_inside, q.count_is, few_told size x y)
+  pub count_few : count_of r ≤ most_held
+  count_few = omega (arith, q.count_is, few_told size x y)
 
   front_is : take (count_of r) tags' ≡ given
   unfolding laid

@@ -4,12 +4,9 @@ use native.Mathlib.Omega.{arith}
 use native.Mathlib.Numerals.{add-one}
 use mathlib.Core.List.{List, [], ◌∷◌, ◌++◌, append_assoc, append-nil}
 use mathlib.Core.Path.{◌≡◌, refl, sym, ap, ◌∙◌}
-use lib.Dec.{ltb}
-use lib.ListN.{length, set, take, drop, length-set, drop_of_length-le}
+use lib.ListN.{length, set, take, drop, length-set}
 use lib.Seq.{take-suc-set}
-use borrow.Author.Tests.{ltb-true, ltb-false}
 use Rattle.published.specs.Rounds.{Run, new_run, refuse, run_from}
-use Rattle.common.proofs.Tests.{clash, split}
 use Rattle.kinds.specs.declared.Step.{Step}
 use Rattle.kinds.specs.Stand.{step_of}
 use Rattle.kinds.specs.Sizes.{benches_of}

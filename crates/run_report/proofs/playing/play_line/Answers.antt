@@ -1,5 +1,5 @@
 -- `play_line`: a malformed line changes nothing; a step by the link of tables and published rounds.
-use Rattle.std.proofs.Common.{◌≡◌, rules, None, Err}
+use Rattle.std.proofs.Common.{◌≡◌, rules, Err}
 use Rattle.kinds.specs.declared.Refusal.TheVariants as refusal
 use Rattle.run_report.proofs.Played.{does_links, malformed_links}
 use Rattle.run_report.proofs.playing.play_line.Goals as goal
