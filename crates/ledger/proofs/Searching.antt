@@ -1,11 +1,11 @@
 -- How the first sweep of a slot is found: by blocks that have none, and then one by one. Assumes nothing.
 use mathlib.Core.Path.{◌≡◌, refl, ap, sym, ◌∙◌}
-use Prim.Native.Nat.{ℕ, zero, suc, ◌+◌, ◌≤◌}
+use Prim.Native.Nat.{ℕ, zero, suc, ◌+◌, ◌-◌, ◌≤◌}
 use mathlib.Core.Bool.{Bool, true, false, not, ◌||◌, false≢true}
 use mathlib.Core.List.{List, [], ◌∷◌, ◌++◌}
 use native.Mathlib.Omega.{arith}
-use lib.ListN.{length, drop}
-use lib.Seq.{drop-drop, drop_at}
+use lib.ListN.{length, take, drop, length-drop}
+use lib.Seq.{drop-drop, drop_at, take_all}
 use Rattle.std.specs.List.{fold, list_any, position_or_len}
 use Rattle.common.proofs.Tests.{split}
 use Rattle.book.specs.Book.{only}
@@ -42,6 +42,10 @@ module _ {X : Type 0} (p : X → Bool) where
 
   pub block_dropped : (xs : List X) (i : ℕ) (b rest : List X) → drop i xs ≡ b ++ rest → rest ≡ drop (i + length b) xs
   block_dropped xs i b rest e = sym (rw (← drop-drop (length b) i xs, e) (drop_at b rest (length b) refl))
+
+-- what is left of a slice from a place on, as code cuts it
+pub rest_whole : {X : Type 0} (xs : List X) (i : ℕ) → take (length xs - i) (drop i xs) ≡ drop i xs
+rest_whole xs i = take_all (length xs - i) (drop i xs) (omega (arith, length-drop i xs))
 
 -- none before the first is of the slot
 pub none_before : (k : ℕ) (xs : List code.Sweep) → NoneOf k (held_in (position_or_len (of_slot k) xs) xs)
