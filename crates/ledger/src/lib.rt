@@ -188,7 +188,7 @@ impl Ledger {
         }
         let mut seats = [0u32; PLACES];
         let top = order::counts(&self.room[from..held], next, &mut seats, size);
-        let total = order::sum_up(&mut seats, top);
+        let total = order::sum_up(&mut seats[..top]);
         if out.len() < total {
             return Err(Refusal::ShortRoom);
         }
