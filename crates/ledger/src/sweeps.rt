@@ -21,7 +21,8 @@ impl Sweep {
 
 // The place of the first sweep of the slot, or how many there are: they are passed by blocks, then one by one.
 pub(crate) fn skipped(sweeps: &[Sweep], slot: SlotNo) -> usize
-    ensures { result ≡ position_or_len (of_slot slot.0) sweeps.now }
+    ensures within { result ≤ length sweeps.now }
+    ensures first { result ≡ position_or_len (of_slot slot.0) sweeps.now }
 {
     let passed = passed_blocks(sweeps, slot);
     passed + passed_ones(&sweeps[passed..], slot)
@@ -46,10 +47,7 @@ fn passed_blocks(sweeps: &[Sweep], slot: SlotNo) -> usize
 fn passed_ones(sweeps: &[Sweep], slot: SlotNo) -> usize
     ensures { result ≡ position_or_len (of_slot slot.0) sweeps.now }
 {
-    sweeps
-        .iter()
-        .take_while(|sweep| !sweep.is_of(slot))
-        .count()
+    sweeps.iter().take_while(|sweep| !sweep.is_of(slot)).count()
 }
 
 // Whether a sweep is of the slot. Each is compared, whatever those before it are.

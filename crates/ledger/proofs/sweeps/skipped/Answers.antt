@@ -22,4 +22,4 @@ returns c =
     let xs = c.args.sweeps.now in
     let i = c.passed_blocks-passed.result in
     let ones = c.passed_ones.ensures ∙ ap (position_or_len p) (rest_whole xs i) in
-    omega (arith, ones, position_from p xs i c.passed_blocks-passed.ensures.none)
+    omega (arith, ones, position_from p xs i c.passed_blocks-passed.ensures.none, prefix_len-le-length (λ w. not (p w)) xs)
