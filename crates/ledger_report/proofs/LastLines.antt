@@ -11,7 +11,7 @@ use Rattle.room.specs.Writes.{Writes, Puts, Holds}
 use Rattle.room.proofs.Writers.{holds_front, holds_behind, writes_then, put_last}
 use Rattle.reports.specs.LedgerReport.{sender_lines, cursor_line, last_lines}
 
-module _ (size : Size) (b : Book) (n r : ℕ) {out : Writer} (h : Holds out (last_lines size b n r)) where
+module _ (size : Size) (b : Book) (n r : ℕ) (out : Writer) (h : Holds out (last_lines size b n r)) where
   pub senders_room : Holds out (sender_lines (benches_of size) b.rows)
   unfolding last_lines
   senders_room = holds_front out (sender_lines (benches_of size) b.rows) (cursor_line b.next (length b.held) ++ totals n r) h

@@ -3,4 +3,4 @@ use Rattle.ledger_report.proofs.AnswerLine.{Others}
 use Rattle.ledger_report.proofs.answers.write_others.Given as goal
 
 abbrev pub invariant-loop-tag : goal.invariant-loop-tag
-invariant-loop-tag l = Others l.initial.room l.at l.tags l.room l.next l.tag-index
+invariant-loop-tag l = Others l.initial.out l.tags l.out l.tag-index

@@ -17,5 +17,5 @@ returns c = search listed_all
 
 pub returns-2 : goal.returns-2
 returns-2 c =
-    let more = listed_more _ _ _ _ _ _ _ c.loop-s.invariant c.loop-s.auto.s c.loop-s-test.true _ c.row_of.ensures _ _ c.write_sender.ensures in
-    listed_all _ _ _ _ _ _ _ more _ c.benches_of-s-end.ensures.0 (omega arith)
+    let more = listed_more _ _ _ _ _ c.loop-s.invariant c.loop-s.auto.s c.loop-s-test.true _ c.row_of.ensures _ c.write_sender.ensures in
+    listed_all _ _ _ _ _ more _ c.benches_of-s-end.ensures.0 (omega arith)

@@ -4,4 +4,4 @@ use Rattle.ledger_report.proofs.SenderLines.{Listed}
 use Rattle.ledger_report.proofs.sender_lines.write_senders.Given as goal
 
 abbrev pub invariant-loop-s : goal.invariant-loop-s
-invariant-loop-s l = Listed l.s-end l.initial.room l.at (rows_by l.ledger) l.room l.next l.s
+invariant-loop-s l = Listed l.s-end l.initial.out (rows_by l.ledger) l.out l.s
