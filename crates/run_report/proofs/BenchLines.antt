@@ -18,12 +18,11 @@ use Rattle.reads.specs.Decisions.{decision_is}
 use Rattle.std.specs.Prelude.{Option}
 use Rattle.kinds.specs.declared.SlotNo.{SlotNo}
 use Rattle.reads.specs.Reads.{state_word, sent_word, decision_at}
-use Rattle.spelling.specs.Numbers.{ascii, digits}
 use Rattle.spelling.proofs.Stores.{stored_length}
 use Rattle.room.specs.declared.writer.Writer.{Writer}
 use Rattle.room.specs.Writes.{Writes}
 use Rattle.room.proofs.Writers.{writes_none, writes_then}
-use Rattle.reports.specs.RunReport.{state_text, last_round, value_text, bench_line, bench_lines}
+use Rattle.reports.specs.RunReport.{last_round, bench_line, bench_lines}
 use Rattle.reports.proofs.RunLines.{spelled, spelled_short}
 use Rattle.reports.proofs.LastRounds.{last_append}
 use Rattle.run_report.specs.Parts.{row_line, row_lines}

@@ -44,7 +44,10 @@ pub fn report(text: &[u8], room: &mut [u8]) -> Result<usize, Refusal>
     let lines = play(text, &mut benches, &mut logs, &mut kept, Size::Sixteen);
     let answers = &kept[..lines];
     let mut rest = [0u8; REST];
-    let mut end = Writer { room: &mut rest, at: 0 };
+    let mut end = Writer {
+        room: &mut rest,
+        at: 0,
+    };
     store_benches(&mut end, &benches, Size::Sixteen);
     end.put_totals(lines as u32, refused_in(answers));
     if !room_for(room, answers, end.at) {

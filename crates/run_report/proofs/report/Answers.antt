@@ -1,7 +1,6 @@
 -- `report` meets its contract: by the parts that stand behind `put_totals`, and by which of the three ways it then goes. Assumes nothing.
 use mathlib.Core.Bool.{not}
-use mathlib.Core.Path.{refl, sym, ap}
-use lib.Seq.{length-take-le}
+use mathlib.Core.Path.{refl, ap}
 use Rattle.tables.specs.Steps.{empty_tables}
 use Rattle.spelling.proofs.Stores.{room_yes, room_not}
 use Rattle.run_report.proofs.Reports.{made, benches_room, lines_few, parts_short, parts_done}

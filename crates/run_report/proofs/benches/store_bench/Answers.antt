@@ -15,5 +15,5 @@ returns c =
     let short = spelled_short c.args.bench.0 (state_of c.state_of-state.result) c.sent_of-sent.result (decision_is c.decision_of-decision.result) in
     let name = rw c.state_name.ensures at c.put_bytes-2.ensures in
     rw (row_is _ _ _ c.state_of-state.ensures _ _ c.sent_of-sent.ensures c.decision_of-decision.ensures c.if-state-eq-FRESH.false)
-        (put_then _ _ c.put_field.ensures (put_then _ _ c.put_bytes.ensures (put_then _ _ name (put_then _ _ c.put_field-2.ensures
-        (put_then _ _ c.put_bytes-3.ensures (put_then _ _ c.put_value.ensures (put_last _ c.put_bytes-4.ensures)))))) (omega arith))
+    (put_then _ _ c.put_field.ensures (put_then _ _ c.put_bytes.ensures (put_then _ _ name (put_then _ _ c.put_field-2.ensures
+    (put_then _ _ c.put_bytes-3.ensures (put_then _ _ c.put_value.ensures (put_last _ c.put_bytes-4.ensures)))))) (omega arith))
