@@ -15,21 +15,21 @@ pub play-lines-requires-clause-logs_value : goal.play-lines-requires-clause-logs
 unfolding empty_tables
 play-lines-requires-clause-logs_value c = refl
 
-pub store_benches-requires : goal.store_benches-requires
-store_benches-requires c = search (benches_room, rules)
+pub write_benches-requires : goal.write_benches-requires
+write_benches-requires c = search (benches_room, rules)
 
 pub room_for-requires : goal.room_for-requires
 room_for-requires c =
-    let p = made c.play-lines.ensures refl c.store_benches.ensures c.refused_in.ensures c.put_totals.ensures (search rules) in
+    let p = made c.play-lines.ensures refl c.write_benches.ensures c.refused_in.ensures c.put_totals.ensures (search rules) in
     (lines_few c.play-lines.ensures (search rules), p.short)
 
 pub returns-then-not-room_for : goal.returns-then-not-room_for
 returns-then-not-room_for c =
-    let p = made c.play-lines.ensures refl c.store_benches.ensures c.refused_in.ensures c.put_totals.ensures (search rules) in
+    let p = made c.play-lines.ensures refl c.write_benches.ensures c.refused_in.ensures c.put_totals.ensures (search rules) in
     parts_short _ _ _ _ _ _ (search rules) p (room_not c.room_for.ensures (ap not c.if-not-room_for.true))
 
 pub returns : goal.returns
 returns c =
-    let p = made c.play-lines.ensures refl c.store_benches.ensures c.refused_in.ensures c.put_totals.ensures (search rules) in
+    let p = made c.play-lines.ensures refl c.write_benches.ensures c.refused_in.ensures c.put_totals.ensures (search rules) in
     let last = rw c.written.ensures at c.put_bytes.ensures in
-    parts_done _ _ _ _ _ _ (search rules) p (room_yes c.room_for.ensures c.if-not-room_for.false) refl refl c.store_answers.ensures last _ (search rules)
+    parts_done _ _ _ _ _ _ (search rules) p (room_yes c.room_for.ensures c.if-not-room_for.false) refl refl c.write_answers.ensures last _ (search rules)
