@@ -1,4 +1,4 @@
--- The lines of the answers: how many bytes they have, and how they are stored one after another. Assumes nothing.
+-- The lines of the answers: how many bytes they have, and how they are written one after another. Assumes nothing.
 use Prim.Native.Nat.{ℕ, suc, ◌+◌, ◌*◌, ◌≤◌, ◌<◌}
 use native.Mathlib.Omega.{arith}
 use native.Mathlib.Nat.{add-zero}
