@@ -6,11 +6,12 @@ use Prim.Native.Nat.{ℕ, zero, suc, ◌+◌, min}
 use native.Mathlib.Nat.{add-zero, zero-add}
 use native.Mathlib.Numerals.{add-one}
 use native.Mathlib.Omega.{arith}
-use lib.ListN.{get_or}
 use Rattle.std.proofs.Math.Bool.{or_comm, or-false}
 use Rattle.std.specs.List.{list_any, range_with_len}
 use Rattle.std.proofs.lemmas.List.Folds.{list_any-append}
 use Rattle.common.specs.Places.{has, some}
+use Rattle.bench.specs.declared.Entry.{Entry}
+use Rattle.bench.specs.Entries.{entry}
 use Rattle.bench.specs.Turns.{least}
 
 -- ---- a visit of the places below n
@@ -27,8 +28,8 @@ some_any p (suc n) =
     ap (list_any p) (range_more 0 n) ∙ list_any-append p (range_with_len 0 n) ((0 + n) ∷ []) ∙ rw (e, some_any p n, or_comm (some p n) (p n || false), or-false) refl
 
 -- one more place of the least value
-module _ (v s : ℕ) (l : List ℕ) (k : ℕ) where
-  pub least_heard : has s k ≡ true → least v s l (k + 1) ≡ min (get_or l k 0) (least v s l k)
+module _ (v s : ℕ) (l : List Entry) (k : ℕ) where
+  pub least_heard : has s k ≡ true → least v s l (k + 1) ≡ min (entry l k).value.0 (least v s l k)
   unfolding least
   least_heard e = rw add-one (simp e)
 

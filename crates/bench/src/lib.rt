@@ -42,19 +42,18 @@ pub struct Bench {
     pub taken: [u32; PLACES],
 }
 
-// What a bench has heard of its round: from whom, with which value and world.
+// What a bench says in a round.
+#[derive(Clone, Copy)]
+pub struct Entry {
+    pub value: SlotNo,
+    pub world: u32,
+}
+
+// What a bench has heard of its round: from whom, and what each of them said.
 #[derive(Clone, Copy)]
 pub struct Heard {
     pub set: u32,
-    pub values: [u32; PLACES],
-    pub worlds: [u32; PLACES],
-}
-
-// The least value heard, and who was heard.
-#[derive(Clone, Copy)]
-pub struct Gathered {
-    pub value: SlotNo,
-    pub world: u32,
+    pub entries: [Entry; PLACES],
 }
 
 // What a turn came to: a decision and OUT to send, or the next round's message to send.
