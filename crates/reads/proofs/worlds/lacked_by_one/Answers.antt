@@ -10,5 +10,5 @@ use Rattle.reads.proofs.worlds.lacked_by_one.Goals as goal
 pub returns : goal.returns
 unfolding lacked_by_one
 returns c =
-    any_from_yields_List (lacked_at c.args.benches.now c.args.logs.now c.args.k) _ _ _ c.any.ensures.ran (YieldsList-from_range 0 _ (benches_of c.args.size) refl (omega arith)) (λ x b q k. search rules)
+    any_from_yields_List (lacked_at c.args.tables.now.benches c.args.tables.now.logs c.args.k) _ _ _ c.any.ensures.ran (YieldsList-from_range 0 _ (benches_of c.args.size) refl (omega arith)) (λ x b q k. search rules)
     ∙ some_any _ _
