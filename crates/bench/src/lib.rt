@@ -49,6 +49,12 @@ pub struct Entry {
     pub world: u32,
 }
 
+// What stands where nothing was said.
+pub const NO_ENTRY: Entry = Entry {
+    value: SlotNo(0),
+    world: 0,
+};
+
 // What a bench has heard of its round: from whom, and what each of them said.
 #[derive(Clone, Copy)]
 pub struct Heard {

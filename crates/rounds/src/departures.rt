@@ -1,54 +1,51 @@
 // Abstain, leave and fail at the bench's place: check 3, then OUT, or silence.
 
-ghost use Rattle.std.specs.Prelude.{◌<◌};
-ghost use Rattle.kinds.specs.Sizes.{places};
 ghost use Rattle.kinds.specs.Refusals.{answer_of};
 ghost use Rattle.tables.specs.Steps.{Acts, abstain_at, leave_at, fail_at};
 
-use crate::rows::{put_state, silent_at, state_at};
 use crate::sends::part;
 use bench::{ABSTAINED, FAILED, FRESH, LEFT};
 use kinds::Refusal;
-use tables::{Benches, Logs};
+use sets::TablePlace;
+use tables::Tables;
 
 #[tactic(auto, unfolding(tables::specs::Steps::abstain_at))]
-pub(crate) fn abstain_at(benches: &mut Benches, logs: &mut Logs, k: usize) -> Result<(), Refusal>
-    requires { k < places }
-    ensures { Acts (answer_of result) benches.new logs.new (abstain_at benches.old logs.old k) }
+pub(crate) fn abstain_at(tables: &mut Tables, k: TablePlace) -> Result<(), Refusal>
+    ensures { Acts (answer_of result) tables.new.benches tables.new.logs (abstain_at tables.old.benches tables.old.logs k.index) }
 {
-    if state_at(&*benches, k) != FRESH {
+    if tables.benches[k.index].state != FRESH {
         return Err(Refusal::WrongState);
     }
-    part(&mut *benches, &mut *logs, k, ABSTAINED);
+    part(tables, k, ABSTAINED);
     Ok(())
 }
 
 // OUT is sent once: a bench that has decided or abstained only changes its state.
-#[tactic(auto, unfolding(tables::specs::Steps::leave_at))]
-pub(crate) fn leave_at(benches: &mut Benches, logs: &mut Logs, k: usize) -> Result<(), Refusal>
-    requires { k < places }
-    ensures { Acts (answer_of result) benches.new logs.new (leave_at benches.old logs.old k) }
+#[tactic(auto, unfolding(tables::specs::Steps::leave_at, bench::specs::Changes::in_state))]
+pub(crate) fn leave_at(tables: &mut Tables, k: TablePlace) -> Result<(), Refusal>
+    ensures { Acts (answer_of result) tables.new.benches tables.new.logs (leave_at tables.old.benches tables.old.logs k.index) }
 {
-    if ABSTAINED < state_at(&*benches, k) {
+    let bench = &mut tables.benches[k.index];
+    if ABSTAINED < bench.state {
         return Err(Refusal::WrongState);
     }
-    if silent_at(&*benches, k) == 1 {
-        put_state(&mut *benches, k, LEFT);
-        return Ok(());
+    if bench.silent == 1 {
+        bench.state = LEFT;
+    } else {
+        part(tables, k, LEFT);
     }
-    part(&mut *benches, &mut *logs, k, LEFT);
     Ok(())
 }
 
 // A bench fails in silence.
-#[tactic(auto, unfolding(tables::specs::Steps::fail_at))]
-pub(crate) fn fail_at(benches: &mut Benches, logs: &mut Logs, k: usize) -> Result<(), Refusal>
-    requires { k < places }
-    ensures { Acts (answer_of result) benches.new logs.new (fail_at benches.old logs.old k) }
+#[tactic(auto, unfolding(tables::specs::Steps::fail_at, bench::specs::Changes::in_state))]
+pub(crate) fn fail_at(tables: &mut Tables, k: TablePlace) -> Result<(), Refusal>
+    ensures { Acts (answer_of result) tables.new.benches tables.new.logs (fail_at tables.old.benches tables.old.logs k.index) }
 {
-    if ABSTAINED < state_at(&*benches, k) {
+    let bench = &mut tables.benches[k.index];
+    if ABSTAINED < bench.state {
         return Err(Refusal::WrongState);
     }
-    put_state(&mut *benches, k, FAILED);
+    bench.state = FAILED;
     Ok(())
 }
