@@ -17,7 +17,8 @@ ghost use Rattle.published.specs.Rounds as published;
 ghost use Rattle.kinds.specs.Stand.{step_of};
 ghost use Rattle.kinds.specs.Sizes.{benches_of};
 ghost use Rattle.kinds.specs.Refusals.{number_of, answer_of};
-ghost use Rattle.tables.specs.Steps.{Acts, table_step, empty_tables};
+ghost use Rattle.tables.specs.Steps.{empty_tables};
+ghost use Rattle.rounds.specs.Stepped.{Stepped};
 
 use crate::arrivals::{arrive_at, notice_at};
 use crate::departures::{abstain_at, fail_at, leave_at};
@@ -36,7 +37,7 @@ pub fn empty(tables: &mut Tables)
 
 #[tactic(auto, unfolding(kinds::specs::Stand::step_of))]
 pub fn step(tables: &mut Tables, s: Step, size: Size) -> Result<(), Refusal>
-    ensures { Acts (answer_of result) tables.new.benches tables.new.logs (table_step (benches_of size) tables.old.benches tables.old.logs (step_of s)) }
+    ensures { Stepped (benches_of size) (answer_of result) tables.old tables.new (step_of s) }
 {
     match s {
         Step::Start(bench, value, world) => start(tables, bench, value, world, size),
@@ -58,7 +59,7 @@ pub fn start(
     world: u32,
     size: Size,
 ) -> Result<(), Refusal>
-    ensures { Acts (answer_of result) tables.new.benches tables.new.logs (table_step (benches_of size) tables.old.benches tables.old.logs (published.start bench.0 value.0 world)) }
+    ensures { Stepped (benches_of size) (answer_of result) tables.old tables.new (published.start bench.0 value.0 world) }
 {
     let k = TablePlace::of(bench, size)?;
     start_at(tables, k, value, world, size)
@@ -67,7 +68,7 @@ pub fn start(
 // Checks 1, 3.
 #[tactic(auto, unfolding(tables::specs::Steps::table_step, tables::specs::Steps::at_bench))]
 pub fn abstain(tables: &mut Tables, bench: BenchNo, size: Size) -> Result<(), Refusal>
-    ensures { Acts (answer_of result) tables.new.benches tables.new.logs (table_step (benches_of size) tables.old.benches tables.old.logs (published.abstain bench.0)) }
+    ensures { Stepped (benches_of size) (answer_of result) tables.old tables.new (published.abstain bench.0) }
 {
     let k = TablePlace::of(bench, size)?;
     abstain_at(tables, k)
@@ -76,7 +77,7 @@ pub fn abstain(tables: &mut Tables, bench: BenchNo, size: Size) -> Result<(), Re
 // Checks 1, 3.
 #[tactic(auto, unfolding(tables::specs::Steps::table_step, tables::specs::Steps::at_bench))]
 pub fn leave(tables: &mut Tables, bench: BenchNo, size: Size) -> Result<(), Refusal>
-    ensures { Acts (answer_of result) tables.new.benches tables.new.logs (table_step (benches_of size) tables.old.benches tables.old.logs (published.leave bench.0)) }
+    ensures { Stepped (benches_of size) (answer_of result) tables.old tables.new (published.leave bench.0) }
 {
     let k = TablePlace::of(bench, size)?;
     leave_at(tables, k)
@@ -85,7 +86,7 @@ pub fn leave(tables: &mut Tables, bench: BenchNo, size: Size) -> Result<(), Refu
 // Checks 1, 3.
 #[tactic(auto, unfolding(tables::specs::Steps::table_step, tables::specs::Steps::at_bench))]
 pub fn fail(tables: &mut Tables, bench: BenchNo, size: Size) -> Result<(), Refusal>
-    ensures { Acts (answer_of result) tables.new.benches tables.new.logs (table_step (benches_of size) tables.old.benches tables.old.logs (published.fail bench.0)) }
+    ensures { Stepped (benches_of size) (answer_of result) tables.old tables.new (published.fail bench.0) }
 {
     let k = TablePlace::of(bench, size)?;
     fail_at(tables, k)
@@ -94,7 +95,7 @@ pub fn fail(tables: &mut Tables, bench: BenchNo, size: Size) -> Result<(), Refus
 // Checks 1, 3, 11.
 #[tactic(auto, unfolding(tables::specs::Steps::table_step, tables::specs::Steps::at_bench))]
 pub fn turn(tables: &mut Tables, bench: BenchNo, size: Size) -> Result<(), Refusal>
-    ensures { Acts (answer_of result) tables.new.benches tables.new.logs (table_step (benches_of size) tables.old.benches tables.old.logs (published.turn bench.0)) }
+    ensures { Stepped (benches_of size) (answer_of result) tables.old tables.new (published.turn bench.0) }
 {
     let k = TablePlace::of(bench, size)?;
     turn_at(tables, k, size)
@@ -103,7 +104,7 @@ pub fn turn(tables: &mut Tables, bench: BenchNo, size: Size) -> Result<(), Refus
 // Checks 1, 2, 3, 9, 8.
 #[tactic(auto, unfolding(tables::specs::Steps::table_step, tables::specs::Steps::at_benches))]
 pub fn arrive(tables: &mut Tables, bench: BenchNo, from: BenchNo, size: Size) -> Result<(), Refusal>
-    ensures { Acts (answer_of result) tables.new.benches tables.new.logs (table_step (benches_of size) tables.old.benches tables.old.logs (published.arrive bench.0 from.0)) }
+    ensures { Stepped (benches_of size) (answer_of result) tables.old tables.new (published.arrive bench.0 from.0) }
 {
     let (k, j) = two_places(bench, from, size)?;
     arrive_at(tables, k, j)
@@ -112,7 +113,7 @@ pub fn arrive(tables: &mut Tables, bench: BenchNo, from: BenchNo, size: Size) ->
 // Checks 1, 2, 3, 10, 9.
 #[tactic(auto, unfolding(tables::specs::Steps::table_step, tables::specs::Steps::at_benches))]
 pub fn notice(tables: &mut Tables, bench: BenchNo, from: BenchNo, size: Size) -> Result<(), Refusal>
-    ensures { Acts (answer_of result) tables.new.benches tables.new.logs (table_step (benches_of size) tables.old.benches tables.old.logs (published.notice bench.0 from.0)) }
+    ensures { Stepped (benches_of size) (answer_of result) tables.old tables.new (published.notice bench.0 from.0) }
 {
     let (k, j) = two_places(bench, from, size)?;
     notice_at(tables, k, j)
