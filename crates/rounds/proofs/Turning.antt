@@ -1,7 +1,10 @@
 -- What a turn sends has room in the log, and a law for each end of a turn over the tables. Assumes nothing.
 use mathlib.Core.Path.{◌≡◌, refl, sym, ap, ◌∙◌, subst}
 use mathlib.Core.List.{List}
-use Prim.Native.Nat.{ℕ}
+use mathlib.Core.Bool.{true}
+use Prim.Native.Nat.{ℕ, ◌-◌}
+use Rattle.common.specs.Benches.{is_bench}
+use Rattle.published.specs.Rounds.{turn}
 use Rattle.std.specs.Prelude.{Result, Ok, Err}
 use Rattle.kinds.specs.declared.Refusal.{Refusal}
 use Rattle.kinds.specs.Refusals.{answer_of}
@@ -16,7 +19,7 @@ use Rattle.bench.specs.Turns.{message_of, go_on_of, turn_of}
 use Rattle.bench.proofs.Answers.{next_fits, turn_ind}
 use Rattle.tables.specs.Rows.{rows}
 use Rattle.tables.specs.Lines.{heard_of}
-use Rattle.tables.specs.Steps.{Acts, acted, sent_of, turn_by, turn_on, turn_at}
+use Rattle.tables.specs.Steps.{Acts, acted, sent_of, turn_by, turn_on, turn_at, at_bench, table_step}
 use Rattle.rounds.specs.Sending.{HasRoom}
 
 abbrev Sends : Result Turn Refusal → Type 0
@@ -41,9 +44,14 @@ module _ (n : ℕ) (t : List Bench) (l : List (List Entry)) (k : ℕ) (h : Heard
   sends_it (Decided v m) t' l' p = p
   sends_it (Went m) t' l' p = p
 
-  pub turn_done : (a : Turn) (t' : List Bench) (l' : List (List Entry)) → r.answer ≡ Ok a → Acts 0 t' l' (acted (sent_of t l k r.bench (message_of a))) → Acts 0 t' l' (turn_at n t l k)
-  turn_done a t' l' e d = rw turned (rw e (sends_it a t' l' d))
+  module _ (b : ℕ) (known : (is_bench n b ≡ true) × (k ≡ b - 1)) where
+    whole : table_step n t l (turn b) ≡ turn_at n t l k
+    unfolding table_step at_bench
+    whole = rw (known.0, known.1) refl
 
-  pub turn_refused : (x : Refusal) (q : Result (Unit {0}) Refusal) → r.answer ≡ Err x → q ≡ Err x → Acts (answer_of q) t l (turn_at n t l k)
-  unfolding turn_by
-  turn_refused x q e i = rw turned (rw (e, i) (record { answer = refl; benches = refl; logs = refl }))
+    pub turn_done : (a : Turn) (t' : List Bench) (l' : List (List Entry)) → r.answer ≡ Ok a → Acts 0 t' l' (acted (sent_of t l k r.bench (message_of a))) → Acts 0 t' l' (table_step n t l (turn b))
+    turn_done a t' l' e d = rw (whole, turned) (rw e (sends_it a t' l' d))
+
+    pub turn_refused : (x : Refusal) (q : Result (Unit {0}) Refusal) → r.answer ≡ Err x → q ≡ Err x → Acts (answer_of q) t l (table_step n t l (turn b))
+    unfolding turn_by
+    turn_refused x q e i = rw (whole, turned) (rw (e, i) (record { answer = refl; benches = refl; logs = refl }))

@@ -1,27 +1,29 @@
-// Start at a place.
+// Start: what is asked of the value and of the world, and of the benches that have started.
 
+ghost use Rattle.published.specs.Rounds as published;
 ghost use Rattle.kinds.specs.Sizes.{benches_of};
 ghost use Rattle.kinds.specs.Refusals.{answer_of};
-ghost use Rattle.tables.specs.Steps.{Acts, start_at};
+ghost use Rattle.rounds.specs.Stepped.{Stepped};
 
 use crate::sends::begin;
 use bench::FRESH;
-use kinds::{Refusal, Size, SlotNo};
+use kinds::{BenchNo, Refusal, Size, SlotNo};
 use reads::worlds::{lacked_by_one, lacks_one};
 use sets::{TablePlace, fits, has};
 use tables::Tables;
 
-// The bench at k starts.
-#[tactic(auto, unfolding(tables::specs::Steps::start_at))]
-pub(crate) fn start_at(
+// Checks 1, 3, 4, 5, 6, 7.
+#[tactic(auto, unfolding(tables::specs::Steps::table_step, tables::specs::Steps::at_bench, tables::specs::Steps::start_at))]
+pub fn start(
     tables: &mut Tables,
-    k: TablePlace,
+    bench: BenchNo,
     value: SlotNo,
     world: u32,
     size: Size,
 ) -> Result<(), Refusal>
-    ensures { Acts (answer_of result) tables.new.benches tables.new.logs (start_at (benches_of size) tables.old.benches tables.old.logs value.0 world k.index) }
+    ensures { Stepped (benches_of size) (answer_of result) tables.old tables.new (published.start bench.0 value.0 world) }
 {
+    let k = TablePlace::of(bench, size)?;
     if tables.benches[k.index].state != FRESH {
         return Err(Refusal::WrongState);
     }

@@ -1,26 +1,28 @@
-// Turn at the bench's place: what the bench makes of what it has heard, and what it sends.
+// Turn: what the bench makes of what it has heard, and what it sends.
 
+ghost use Rattle.published.specs.Rounds as published;
 ghost use Rattle.kinds.specs.Sizes.{benches_of};
 ghost use Rattle.kinds.specs.Refusals.{answer_of};
-ghost use Rattle.tables.specs.Steps.{Acts, turn_at};
+ghost use Rattle.rounds.specs.Stepped.{Stepped};
 
 use crate::lines::heard_by;
 use crate::sends::send;
 use bench::RUNNING;
-use kinds::{Refusal, Size};
+use kinds::{BenchNo, Refusal, Size};
 use sets::TablePlace;
 use tables::Tables;
 
-// The state is looked at first, since nothing need be gathered from the logs for a bench that is not running.
-#[tactic(auto, unfolding(tables::specs::Steps::turn_at, tables::specs::Steps::turn_on, tables::specs::Steps::turn_by, bench::specs::Turns::turn_of))]
-pub(crate) fn turn_at(tables: &mut Tables, k: TablePlace, size: Size) -> Result<(), Refusal>
-    ensures { Acts (answer_of result) tables.new.benches tables.new.logs (turn_at (benches_of size) tables.old.benches tables.old.logs k.index) }
+// Checks 1, 3, 11. The state is looked at first, since nothing need be gathered from the logs for a bench that is not running.
+#[tactic(auto, unfolding(tables::specs::Steps::table_step, tables::specs::Steps::at_bench, tables::specs::Steps::turn_at, tables::specs::Steps::turn_on, tables::specs::Steps::turn_by, bench::specs::Turns::turn_of))]
+pub fn turn(tables: &mut Tables, bench: BenchNo, size: Size) -> Result<(), Refusal>
+    ensures { Stepped (benches_of size) (answer_of result) tables.old tables.new (published.turn bench.0) }
 {
-    let bench = &tables.benches[k.index];
-    if bench.state != RUNNING {
+    let k = TablePlace::of(bench, size)?;
+    let here = &tables.benches[k.index];
+    if here.state != RUNNING {
         return Err(Refusal::WrongState);
     }
-    let turned = bench.turn(heard_by(bench, &tables.logs, size), size);
+    let turned = here.turn(heard_by(here, &tables.logs, size), size);
     let m = turned.answer?.message();
     send(tables, k, turned.bench, m);
     Ok(())
