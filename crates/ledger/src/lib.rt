@@ -1,22 +1,21 @@
-// One bench's store of received sweeps, handed out slot by slot. All of it is words that the caller lends: a cursor, a table of the senders'
-// rows, and a room for the sweeps held. Each step works in place and returns its number. specs/Book.antt of `book` says what each step does,
-// specs/Seen.antt which book the words are, specs/Promises.antt what is promised.
+// One bench's store of received sweeps, handed out slot by slot. The caller lends it, and each step works in place and says why where it
+// refuses. specs/Book.antt of `book` says what each step does, specs/Seen.antt which book a ledger is, specs/Promises.antt what is promised.
 
 #![tactic(auto)]
 
-use kinds::{AnswerNo, SlotNo};
-pub use senders::{LAST_SLOT, ROW_LENGTH, Row, RowWords};
+use advancing::advance;
+use asking::{may_close, may_end, may_join, may_sweep, seat};
+use kinds::{BenchNo, PLACES, Refusal, Size, SlotNo};
+use senders::{all_closed, row_at};
+use sets::only;
+use sweeps::{skipped, take_out};
 
-mod joining; // joining.rt: a new ledger, join and close
-mod sweeping; // sweeping.rt: sweep and end
-mod handing; // handing.rt: hand out
-mod words; // words.rt: the words of the room
-mod order; // order.rt: the tags of a slot in the order of hand-out
+pub use senders::{LAST_SLOT, Row, Rows, SenderRow};
+
 mod advancing; // advancing.rt: the cursor
-
-pub use handing::hand_out;
-pub use joining::{clear, close, join, row_of};
-pub use sweeping::{end, sweep};
+mod asking; // asking.rt: the checks of each step
+mod order; // order.rt: the tags of a slot in the order of hand-out
+mod sweeps; // sweeps.rt: the sweeps of the room
 
 // The last slot that is ever handed out: `last_out` of `book`.
 pub const LAST_OUT: u32 = 65533;
@@ -24,31 +23,183 @@ pub const LAST_OUT: u32 = 65533;
 // How many sweeps can be held: `most_held` of `book`.
 pub const ROOM: usize = 1024;
 
-// The cursor as words: the next slot to hand out, how many sweeps are held, and the set of the senders that have joined: place i of the
+// Where the ledger stands: the next slot to hand out, how many sweeps are held, and the set of the senders that have joined: place i of the
 // set is sender i + 1.
-pub type CursorWords = [u32; CURSOR_LENGTH];
-
-pub const CURSOR_LENGTH: usize = 3;
-
-pub const NEXT: usize = 0;
-
-pub const HELD: usize = 1;
-
-pub const JOINED: usize = 2;
-
-// A word for each sweep held, in order of arrival.
-pub type RoomWords = [u64; ROOM];
-
-// Where the ledger stands: the next slot to hand out, and how many sweeps are held.
 #[derive(Clone, Copy)]
 pub struct Cursor {
     pub next: SlotNo,
     pub held: u32,
+    pub joined: u32,
 }
 
-// How many tags were written, or the number of the refusal alone.
+// A sweep that is held. Its numbers are as narrow as they can be: a room of 8 KiB holds 1,024, and eight are compared at once.
 #[derive(Clone, Copy)]
-pub enum HandOut {
-    Written(usize),
-    Refused(AnswerNo),
+pub struct Sweep {
+    pub sender: u16,
+    pub slot: u16,
+    pub tag: u32,
+}
+
+// The first places of the room have the sweeps held, in order of arrival; the others say nothing.
+#[derive(Clone, Copy)]
+pub struct Ledger {
+    pub cursor: Cursor,
+    pub rows: Rows,
+    pub room: [Sweep; ROOM],
+}
+
+impl Ledger {
+    ghost use Rattle.std.specs.Prelude.{◌≡◌, ◌≤◌, true, min, replicate};
+    ghost use Rattle.book.specs.Book.{last_out, join, close, sweep, end, may_go};
+    ghost use Rattle.kinds.specs.Sizes.{benches_of};
+    ghost use Rattle.kinds.specs.Refusals.{answer_of};
+    ghost use Rattle.senders.specs.Rows.{row_is};
+    ghost use Rattle.ledger.specs.Seen.{room_words, rows_by};
+    ghost use Rattle.ledger.specs.Promises.{Tells, Hands, Begins, no_sweep};
+
+    // A ledger that begins at a slot: nobody has joined, and nothing is held.
+    pub fn new(begin: SlotNo) -> Ledger
+        ensures begins { Begins begin.0 result }
+        ensures room { result.room ≡ replicate room_words no_sweep }
+    {
+        let nobody = SenderRow::from(Row::Unknown);
+        Ledger {
+            cursor: Cursor {
+                next: begin,
+                held: 0,
+                joined: 0,
+            },
+            rows: [nobody; PLACES],
+            room: [Sweep {
+                sender: 0,
+                slot: 0,
+                tag: 0,
+            }; ROOM],
+        }
+    }
+
+    // The same in place. What the room has stays there, and says nothing.
+    pub fn clear(&mut self, begin: SlotNo)
+        ensures begins { Begins begin.0 self.new }
+        ensures room { self.new.room ≡ self.old.room }
+    {
+        let nobody = SenderRow::from(Row::Unknown);
+        self.cursor = Cursor {
+            next: begin,
+            held: 0,
+            joined: 0,
+        };
+        self.rows = [nobody; PLACES];
+    }
+
+    // What the ledger knows of a sender; of a number that has no row, nothing.
+    pub fn row_of(&self, sender: BenchNo) -> Row
+        ensures { row_is result ≡ rows_by self.now sender.0 }
+    {
+        match sender.0.checked_sub(1) {
+            None => Row::Unknown,
+            Some(i) => row_at(self.cursor.joined, &self.rows, i as usize),
+        }
+    }
+
+    // The sender's open slot is `first` from now on. What is held stays.
+    pub fn join(&mut self, sender: BenchNo, first: SlotNo, size: Size) -> Result<(), Refusal>
+        ensures { Tells (benches_of size) self.old (join sender.0 first.0) (answer_of result) self.new }
+    {
+        let i = seat(sender, size)?;
+        let row = row_at(self.cursor.joined, &self.rows, i);
+        may_join(row, self.cursor.next, first)?;
+        self.rows[i] = SenderRow::from(Row::Joined { first, open: first });
+        self.cursor.joined |= only(i);
+        Ok(())
+    }
+
+    // The sender's open slot is complete, and the next one opens. The cursor and the room stay.
+    pub fn close(&mut self, sender: BenchNo, size: Size) -> Result<(), Refusal>
+        ensures { Tells (benches_of size) self.old (close sender.0) (answer_of result) self.new }
+    {
+        let i = seat(sender, size)?;
+        let row = row_at(self.cursor.joined, &self.rows, i);
+        may_close(row)?;
+        self.rows[i] = SenderRow::from(row.closed());
+        Ok(())
+    }
+
+    // A sweep is held under the sender's open slot.
+    pub fn sweep(&mut self, sender: BenchNo, tag: u32, size: Size) -> Result<(), Refusal>
+        ensures { Tells (benches_of size) self.old (sweep sender.0 tag) (answer_of result) self.new }
+    {
+        let i = seat(sender, size)?;
+        let row = row_at(self.cursor.joined, &self.rows, i);
+        may_sweep(row, self.cursor.held)?;
+        self.room[self.cursor.held as usize] = Sweep {
+            sender: sender.0 as u16,
+            slot: row.open_slot().0 as u16,
+            tag,
+        };
+        self.cursor.held += 1;
+        Ok(())
+    }
+
+    // The sender counts in no slot from `slot` on, and its sweeps held for such slots are dropped: their places are used again.
+    pub fn end(&mut self, sender: BenchNo, slot: SlotNo, size: Size) -> Result<(), Refusal>
+        ensures { Tells (benches_of size) self.old (end sender.0 slot.0) (answer_of result) self.new }
+    {
+        let i = seat(sender, size)?;
+        let row = row_at(self.cursor.joined, &self.rows, i);
+        may_end(row, self.cursor.next, slot)?;
+        let held = self.held();
+        let left = take_out(&mut self.room, 0, held, sweeps::Part::From(sender, slot));
+        self.rows[i] = SenderRow::from(row.ended(slot));
+        self.cursor.held = left as u32;
+        Ok(())
+    }
+
+    // Writes the tags of the next slot, if every member of it has closed it, every member of the slot after it has closed that, and `out` has
+    // room for them: senders in rising number, each sender's in order of arrival. How many. Places past the last tag keep what they held; the
+    // places of the sweeps are used again.
+    pub fn hand_out(&mut self, out: &mut [u32], size: Size) -> Result<usize, Refusal>
+        ensures { Hands (benches_of size) self.old out.old result self.new out.new }
+    {
+        let next = self.cursor.next;
+        if LAST_OUT < next.0 {
+            return Err(Refusal::PastLastSlot);
+        }
+        let after = SlotNo(next.0 + 1);
+        if !all_closed(self.cursor.joined, &self.rows, next, after, size) {
+            return Err(Refusal::NotClosed);
+        }
+        self.give(out, size)
+    }
+
+    // The hand-out of a slot that may go. Where nothing held is of the slot, nothing is written and the room stays.
+    fn give(&mut self, out: &mut [u32], size: Size) -> Result<usize, Refusal>
+        requires { (self.old.cursor.next.0 ≤ last_out) × (may_go (benches_of size) self.old.cursor.next.0 (rows_by self.old) ≡ true) }
+        ensures { Hands (benches_of size) self.old out.old result self.new out.new }
+    {
+        let next = self.cursor.next;
+        let held = self.held();
+        let from = skipped(&self.room[..held], next);
+        if from == held {
+            advance(&mut self.cursor, held as u32);
+            return Ok(0);
+        }
+        let mut seats = [0u32; PLACES];
+        let top = order::counts(&self.room[from..held], next, &mut seats, size);
+        let total = order::sum_up(&mut seats, top);
+        if out.len() < total {
+            return Err(Refusal::ShortRoom);
+        }
+        order::place(&self.room[from..held], next, &mut seats, out, size);
+        let left = take_out(&mut self.room, from, held, sweeps::Part::Of(next));
+        advance(&mut self.cursor, left as u32);
+        Ok(total)
+    }
+
+    // How many sweeps are held, by the cursor's count: no more than there is room for.
+    fn held(&self) -> usize
+        ensures { result ≡ min self.now.cursor.held room_words }
+    {
+        ROOM.min(self.cursor.held as usize)
+    }
 }

@@ -6,10 +6,7 @@ ghost use Rattle.spelling.specs.Stored.{Stored, fitting};
 pub fn has_room(room: &[u8], at: usize, count: usize) -> bool
     ensures { result ≡ leb (at + count) (length room.now) }
 {
-    if room.len() < at {
-        return false;
-    }
-    count <= room.len() - at
+    at <= room.len() && count <= room.len() - at
 }
 
 // Stores bytes from a place on, and answers the place behind them.
@@ -17,14 +14,9 @@ pub(crate) fn store_bytes(room: &mut [u8], at: usize, bytes: &[u8]) -> usize
     requires { at + length bytes.now ≤ length room.old }
     ensures { Stored room.old at bytes.now result room.new }
 {
-    let mut o = at;
-    let mut j = 0;
-    while j < bytes.len() {
-        room[o] = bytes[j];
-        o += 1;
-        j += 1;
-    }
-    o
+    let end = at + bytes.len();
+    room[at..end].copy_from_slice(bytes);
+    end
 }
 
 // Stores bytes from a place on, where the room holds them all, and answers the place behind them. Else the room is as it was, and the

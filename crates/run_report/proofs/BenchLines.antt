@@ -1,7 +1,7 @@
 -- The lines of the benches, by what is read of the table: those of the run that the tables stand for, and how they are stored. Assumes nothing.
-use Prim.Native.Nat.{ℕ, zero, suc, ◌+◌, ◌*◌, ◌≤◌, ◌<◌}
+use Prim.Native.Nat.{ℕ, zero, suc, ◌+◌, ◌-◌, ◌*◌, ◌≤◌, ◌<◌}
 use native.Mathlib.Omega.{arith}
-use native.Mathlib.Numerals.{add-one, sub-one}
+use native.Mathlib.Numerals.{sub-one}
 use mathlib.Core.Bool.{Bool, true, false, cond}
 use mathlib.Core.List.{List, [], ◌∷◌, ◌++◌}
 use mathlib.Core.Path.{◌≡◌, refl, sym, ◌∙◌}
@@ -108,32 +108,33 @@ module _ (t : List (List ℕ)) (b state : ℕ) (e : state ≡ state_word t b) wh
 
 -- ---- the lines stored, bench by bench
 
--- of n benches the lines of the first k are stored
-pub record Listed (n : ℕ) (room₀ : List ℕ) (t : List (List ℕ)) (room : List ℕ) (at k : ℕ) : Type 0 where
-  pub upto : k ≤ n
-  pub short : at ≤ 67 * k
-  pub stored : Stored room₀ 0 (row_lines t k) at room
+-- of n benches the lines of those below b are stored
+pub record Listed (n : ℕ) (room₀ : List ℕ) (t : List (List ℕ)) (room : List ℕ) (at b : ℕ) : Type 0 where
+  pub upto : b ≤ n + 1
+  pub short : at + 67 ≤ 67 * b
+  pub stored : Stored room₀ 0 (row_lines t (b - 1)) at room
 
-lines_next : (t : List (List ℕ)) (k : ℕ) → row_lines t (k + 1) ≡ row_lines t k ++ row_line t (k + 1)
+lines_next : (t : List (List ℕ)) (b : ℕ) → 1 ≤ b → row_lines t (b + 1 - 1) ≡ row_lines t (b - 1) ++ row_line t b
 unfolding row_lines
-lines_next t k = rw add-one refl
+lines_next t zero h = absurd (omega arith)
+lines_next t (suc k) h = let e : suc k + 1 - 1 ≡ suc k = omega arith in let d : suc k - 1 ≡ k = omega arith in rw (e, d) refl
 
 module _ (n : ℕ) (room₀ : List ℕ) (t : List (List ℕ)) where
-  pub listed_none : Listed n room₀ t room₀ 0 0
+  pub listed_none : Listed n room₀ t room₀ 0 1
   unfolding row_lines
   listed_none = record { upto = omega arith; short = omega arith; stored = stored_nil room₀ 0 }
 
-  module _ (room : List ℕ) (at k : ℕ) (p : Listed n room₀ t room at k) where
-    pub listed_room : (N : ℕ) → n ≡ N → k < n → 67 * N ≤ length room₀ → at + 67 ≤ length room
+  module _ (room : List ℕ) (at b : ℕ) (p : Listed n room₀ t room at b) where
+    pub listed_room : (N : ℕ) → n ≡ N → b ≤ n → 67 * N ≤ length room₀ → at + 67 ≤ length room
     listed_room N e h r = omega (arith, p.short, stored_length p.stored)
 
-    pub listed_more : k < n → (room' : List ℕ) (next : ℕ) → Stored room at (row_line t (k + 1)) next room' → Listed n room₀ t room' next (k + 1)
-    listed_more h room' next s =
+    pub listed_more : 1 ≤ b → b ≤ n → (room' : List ℕ) (next : ℕ) → Stored room at (row_line t b) next room' → Listed n room₀ t room' next (b + 1)
+    listed_more h u room' next s =
         record {
           upto = omega arith;
-          short = omega (arith, p.short, s.place, row_short t (k + 1));
-          stored = rw lines_next (stored_then p.stored s);
+          short = omega (arith, p.short, s.place, row_short t b);
+          stored = rw (lines_next t b h) (stored_then p.stored s);
         }
 
-    pub listed_all : (N : ℕ) → n ≡ N → n ≤ k → Stored room₀ 0 (row_lines t N) at room
-    listed_all N e h = let q : k ≡ N = omega (arith, p.upto) in rw q at p.stored
+    pub listed_all : (N : ℕ) → n ≡ N → n < b → Stored room₀ 0 (row_lines t N) at room
+    listed_all N e h = let q : b - 1 ≡ N = omega (arith, p.upto) in rw q at p.stored

@@ -11,10 +11,12 @@ use Rattle.kinds.proofs.Sizes.{benches_fit}
 use Rattle.spelling.specs.Stored.{Stored}
 use Rattle.spelling.proofs.Stores.{stored_then, stored_length}
 use Rattle.spelling.proofs.Puts.{Put, put_last, front}
-use Rattle.reports.specs.declared.Reported.TheVariants.{Length, Refused}
+use Rattle.std.specs.Prelude.{Ok, Err}
+use Rattle.kinds.specs.declared.Refusal.TheVariants.{LongText, ShortRoom}
+use Rattle.kinds.specs.Refusals.{answer_of}
 use Rattle.spelling.specs.Answers.{totals}
 use Rattle.reports.specs.RunReport.{answer_lines, refused_in, totals_of, run_report_for, run_report_of}
-use Rattle.reports.specs.Reported.{Reports, longest, number_of, length_of, number_for, length_for, room_after}
+use Rattle.reports.specs.Reported.{Reports, longest, length_of, number_for, length_for, room_after}
 use Rattle.run_report.specs.Parts.{Played, row_lines}
 use Rattle.run_report.proofs.BenchLines.{row_lines_lem, rows_short}
 use Rattle.reports.proofs.RunLines.{totals_of_short}
@@ -64,10 +66,10 @@ made {z} {text} {answers} {rest₀} {t = t} {l} {n} {m = m} p s₁ er s₂ h =
 
 -- 23, in its parts
 module _ (text report room : List ℕ) (h : longest < length text) where
-  pub long_number : number_for text report room ≡ number_of (Refused 23)
+  pub long_number : number_for text report room ≡ answer_of {A = ℕ} (Err LongText)
   long_number = sym ((text_long text report room h).number)
 
-  pub long_length : length_for text report room ≡ length_of (Refused 23)
+  pub long_length : length_for text report room ≡ length_of (Err LongText)
   long_length = sym ((text_long text report room h).bytes)
 
   pub long_room : room_after text report room ≡ room
@@ -78,12 +80,12 @@ module _ (z : Size) (text room answers rest : List ℕ) (m : ℕ) (h : length te
   whole_length = rw (p.whole, length-append, length-take-le m rest p.fits) refl
 
   -- 22
-  pub parts_short : length room < length (answer_lines 1 answers) + m → Reports text (run_report_of z text) room (Refused 22) room
+  pub parts_short : length room < length (answer_lines 1 answers) + m → Reports text (run_report_of z text) room (Err ShortRoom) room
   parts_short r = room_short text (run_report_of z text) room h (omega (arith, whole_length))
 
   -- done
   pub parts_done : length (answer_lines 1 answers) + m ≤ length room → {room₁ room₂ : List ℕ} {at next : ℕ} → Stored room 0 (answer_lines 1 answers) at room₁
-      → Put room₁ at (take m rest) next room₂ → Reports text (run_report_of z text) room (Length next) room₂
+      → Put room₁ at (take m rest) next room₂ → Reports text (run_report_of z text) room (Ok next) room₂
   parts_done r s q =
       let l = length-take-le m rest p.fits in
       report_done text (run_report_of z text) room h (omega (arith, whole_length))

@@ -28,10 +28,8 @@ fn answers_length(answers: &[u8]) -> usize
     ensures { result ≡ length (answer_lines 1 answers.now) }
 {
     let mut n = 0;
-    let mut i = 0;
-    while i < answers.len() {
-        n += answer_length(i as u32 + 1, answers[i]);
-        i += 1;
+    for (i, &answer) in answers.iter().enumerate() {
+        n += answer_length(i as u32 + 1, answer);
     }
     n
 }
@@ -49,10 +47,8 @@ pub(crate) fn store_answers(room: &mut [u8], answers: &[u8]) -> usize
     ensures { Stored room.old 0 (answer_lines 1 answers.now) result room.new }
 {
     let mut at = 0;
-    let mut i = 0;
-    while i < answers.len() {
-        at = store_answer_line(room, at, i as u32 + 1, answers[i]);
-        i += 1;
+    for (i, &answer) in answers.iter().enumerate() {
+        at = store_answer_line(room, at, i as u32 + 1, answer);
     }
     at
 }

@@ -21,9 +21,7 @@ pub(crate) fn store_benches(room: &mut [u8], benches: &Benches, size: Size) -> u
     ensures { Stored room.old 0 (row_lines benches.now (benches_of size)) result room.new }
 {
     let mut at = 0;
-    let n = benches_of(size);
-    for k in 0..n {
-        let b = k + 1;
+    for b in 1..=benches_of(size) {
         at = store_bench(room, at, benches, BenchNo(b));
     }
     at

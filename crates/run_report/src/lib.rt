@@ -16,9 +16,9 @@ mod totals; // totals.rt: the lines not answered 0 counted
 
 use answers::{room_for, store_answers};
 use benches::store_benches;
-use kinds::{PLACES, Size};
+use kinds::{PLACES, Refusal, Size};
 use playing::play;
-use reports::{LONGEST, Reported};
+use reports::LONGEST;
 use room::bytes::put_bytes;
 use room::totals::put_totals;
 use tables::{LOG, ROW};
@@ -33,11 +33,11 @@ const REST: usize = 67 * PLACES + 36;
 // Plays the text and writes its report to the front of the room. A refusal leaves the room as it was, and so does the report all
 // that stands behind it.
 #[tactic(auto, using(crate::proofs::Reports::long_number, crate::proofs::Reports::long_length, crate::proofs::Reports::long_room))]
-pub fn report(text: &[u8], room: &mut [u8]) -> Reported
+pub fn report(text: &[u8], room: &mut [u8]) -> Result<usize, Refusal>
     ensures { Reports text.now (run_report_of Sixteen text.now) room.old result room.new }
 {
     if LONGEST < text.len() {
-        return Reported::Refused(23);
+        return Err(Refusal::LongText);
     }
     let mut benches = [[0u32; ROW]; PLACES];
     let mut logs = [[0u32; LOG]; PLACES];
@@ -48,10 +48,10 @@ pub fn report(text: &[u8], room: &mut [u8]) -> Reported
     let last = store_benches(&mut rest, &benches, Size::Sixteen);
     let n = put_totals(&mut rest, last, lines as u32, refused_in(answers));
     if !room_for(room, answers, n) {
-        return Reported::Refused(22);
+        return Err(Refusal::ShortRoom);
     }
     let at = store_answers(room, answers);
-    Reported::Length(put_bytes(room, at, &rest[..n]))
+    Ok(put_bytes(room, at, &rest[..n]))
 }
 
 // The same for C, to which crate run_report_c hands it on: the report's length, or 0 of a refusal. No report has the length 0.
@@ -59,8 +59,5 @@ pub fn report_or_zero(text: &[u8], room: &mut [u8]) -> usize
     ensures value { result ≡ length_for text.now (run_report_of Sixteen text.now) room.old }
     ensures room_after { room.new ≡ room_after text.now (run_report_of Sixteen text.now) room.old }
 {
-    match report(text, room) {
-        Reported::Length(n) => n,
-        Reported::Refused(_) => 0,
-    }
+    report(text, room).unwrap_or(0)
 }

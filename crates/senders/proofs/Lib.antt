@@ -1,4 +1,4 @@
-pub mod Words
+pub mod Kept
 pub mod Seating
 pub mod Going
 pub mod Settled

@@ -3,7 +3,7 @@
 use mathlib.Core.Path.{◌≡◌, refl, ap, sym, ◌∙◌, fun_ext}
 use Prim.Native.Nat.{ℕ, zero, suc, ◌^◌, ◌≤◌, ◌<◌}
 use mathlib.Core.Bool.{Bool, true, false, not, ◌&&◌, and-false, false≢true}
-use mathlib.Core.List.{List, []}
+use mathlib.Core.List.{List}
 use native.Mathlib.Omega.{arith}
 use lib.Bits.{bit_or}
 use lib.ListN.{length, get_or, set, length-set}
@@ -17,53 +17,44 @@ use Rattle.common.proofs.Sets.{has_none, joined_same, joined_other}
 use Rattle.common.proofs.Updates.{put_ind}
 use Rattle.kinds.specs.Sizes.{places}
 use Rattle.book.specs.Book.{last_slot, Row, unknown, open_slot}
-use Rattle.senders.specs.Words.{row_in, rows_of}
-use Rattle.senders.proofs.Words.{open_last}
+use Rattle.senders.specs.declared.SenderRow.{SenderRow}
+use Rattle.senders.specs.Kept.{row_in, blank, rows_of}
+use Rattle.senders.proofs.Kept.{open_last}
 
 -- one that is not in the set is not known
-pub rows_out : (j : ℕ) (rows : List (List ℕ)) (i : ℕ) → has j i ≡ false → rows_of j rows (suc i) ≡ unknown
+pub rows_out : (j : ℕ) (rows : List SenderRow) (i : ℕ) → has j i ≡ false → rows_of j rows (suc i) ≡ unknown
 unfolding rows_of
 rows_out j rows i e = let q : (ltb i (length rows) && has j i) ≡ false = rw e (and-false (ltb i (length rows))) in rw q refl
 
-pub rows_in : (j : ℕ) (rows : List (List ℕ)) (i : ℕ) → i < length rows → has j i ≡ true → rows_of j rows (suc i) ≡ row_in (get_or rows i [])
+pub rows_in : (j : ℕ) (rows : List SenderRow) (i : ℕ) → i < length rows → has j i ≡ true → rows_of j rows (suc i) ≡ row_in (get_or rows i blank)
 unfolding rows_of
 rows_in j rows i h e = rw (lt-ltb i (length rows) h, e) refl
 
+pub rows_past : (j : ℕ) (rows : List SenderRow) (i : ℕ) → length rows ≤ i → rows_of j rows (suc i) ≡ unknown
+unfolding rows_of
+rows_past j rows i h = rw (le-ltb i (length rows) h) refl
+
 -- who passes a test that nobody unknown does is in the set
-pub rows_joined : (p : Row → Bool) → p unknown ≡ false → (j : ℕ) (rows : List (List ℕ)) (i : ℕ) → p (rows_of j rows (suc i)) ≡ true → has j i ≡ true
+pub rows_joined : (p : Row → Bool) → p unknown ≡ false → (j : ℕ) (rows : List SenderRow) (i : ℕ) → p (rows_of j rows (suc i)) ≡ true → has j i ≡ true
 rows_joined p u j rows i e = split (has j i) (λ q. q) (λ q. absurd (false≢true (sym u ∙ sym (ap p (rows_out j rows i q)) ∙ e)))
 
-pub rows_open_last : (j : ℕ) (rows : List (List ℕ)) (s : ℕ) → open_slot (rows_of j rows s) ≤ suc last_slot
+pub rows_open_last : (j : ℕ) (rows : List SenderRow) (s : ℕ) → open_slot (rows_of j rows s) ≤ suc last_slot
 unfolding rows_of open_slot
 rows_open_last j rows zero = omega arith
-rows_open_last j rows (suc i) = cond_ind (λ x. open_slot x ≤ suc last_slot) (ltb i (length rows) && has j i) (row_in (get_or rows i [])) unknown (λ q. open_last (get_or rows i [])) (λ q. omega arith)
-
--- ---- as the code looks for a row: past the table, not in the set, and in both
-
-module _ (j : ℕ) (rows : List (List ℕ)) (i : ℕ) (full : length rows ≡ places) where
-  pub rows_past : places ≤ i → unknown ≡ rows_of j rows (suc i)
-  unfolding rows_of
-  rows_past h = rw (le-ltb i (length rows) (omega arith)) refl
-
-  module _ (t : Bool) (is : t ≡ has j i) where
-    pub rows_absent : not t ≡ true → unknown ≡ rows_of j rows (suc i)
-    rows_absent q = sym (rows_out j rows i (sym is ∙ not-true t q))
-
-    pub rows_here : not t ≡ false → i < places → (x : Row) → x ≡ row_in (get_or rows i []) → x ≡ rows_of j rows (suc i)
-    rows_here q h x e = e ∙ sym (rows_in j rows i (omega arith) (sym is ∙ not-false t q))
+rows_open_last j rows (suc i) = cond_ind (λ x. open_slot x ≤ suc last_slot) (ltb i (length rows) && has j i) (row_in (get_or rows i blank)) unknown (λ q. open_last (get_or rows i blank)) (λ q. omega arith)
 
 -- ---- a row written anew, of a sender that is in the set then; of the others the set says what it said
 
-module _ (j : ℕ) (rows : List (List ℕ)) (i : ℕ) (w : List ℕ) (there : i < length rows) where
+module _ (j : ℕ) (rows : List SenderRow) (i : ℕ) (w : SenderRow) (there : i < length rows) where
   rows_set : (j' : ℕ) → has j' i ≡ true → ((k : ℕ) → (k ≡ i → ⊥) → has j' k ≡ has j k) → rows_of j' (set rows i w) ≡ put (rows_of j rows) (suc i) (row_in w)
   unfolding rows_of
   rows_set j' in_it others =
       fun_ext λ s. put_ind (λ z. rows_of j' (set rows i w) s ≡ z) (rows_of j rows) (suc i) (row_in w) s
-      (λ e. rw e (rows_in j' (set rows i w) i (omega (arith, length-set rows i w)) in_it ∙ ap row_in (get_or-set_same rows i w [] there))) (λ ne. other s ne)
+      (λ e. rw e (rows_in j' (set rows i w) i (omega (arith, length-set rows i w)) in_it ∙ ap row_in (get_or-set_same rows i w blank there))) (λ ne. other s ne)
     where
       other : (s : ℕ) → (s ≡ suc i → ⊥) → rows_of j' (set rows i w) s ≡ rows_of j rows s
       other zero ne = refl
-      other (suc k) ne = let q : k ≡ i → ⊥ = omega arith in rw (length-set rows i w, others k q, get_or-set_other rows i k w [] q) refl
+      other (suc k) ne = let q : k ≡ i → ⊥ = omega arith in rw (length-set rows i w, others k q, get_or-set_other rows i k w blank q) refl
 
   -- it joins the set
   pub rows_joins : rows_of (bit_or j (2 ^ i)) (set rows i w) ≡ put (rows_of j rows) (suc i) (row_in w)
@@ -75,10 +66,10 @@ module _ (j : ℕ) (rows : List (List ℕ)) (i : ℕ) (w : List ℕ) (there : i 
 
 -- ---- nobody
 
-rows_nobody : (rows : List (List ℕ)) (s : ℕ) → rows_of 0 rows s ≡ unknown
+rows_nobody : (rows : List SenderRow) (s : ℕ) → rows_of 0 rows s ≡ unknown
 unfolding rows_of
 rows_nobody rows zero = refl
 rows_nobody rows (suc i) = rows_out 0 rows i (has_none i)
 
-pub rows_new : (rows : List (List ℕ)) → rows_of 0 rows ≡ λ s. unknown
+pub rows_new : (rows : List SenderRow) → rows_of 0 rows ≡ λ s. unknown
 rows_new rows = fun_ext λ s. rows_nobody rows s

@@ -1,12 +1,10 @@
-// What a ledger knows of a sender, by value and as three words: what its row says, and the row after a close and after an end. In table.rt
+// What a ledger knows of a sender, by value (`Row`) and as it is kept (`SenderRow`), and the row after a close and after an end. In table.rt
 // the rows of all senders, and the set of those that have joined.
 
-#![tactic(auto)]
+#![tactic(auto, unfolding(crate::specs::Rows::row_is, crate::specs::Kept::row_in, crate::specs::Kept::kept_of, book::specs::Book::has_joined, book::specs::Book::is_open, book::specs::Book::first_slot, book::specs::Book::open_slot, book::specs::Book::is_member, book::specs::Book::done_with,))]
 
-ghost use Rattle.std.specs.Prelude.{◌≡◌, suc};
-ghost use Rattle.book.specs.Book.{joined, ended, has_joined, is_open, first_slot, open_slot, is_member, done_with};
-ghost use Rattle.senders.specs.Rows.{row_is};
-ghost use Rattle.senders.specs.Words.{slot_in, row_in, words_of};
+ghost use Rattle.std.specs.Prelude.{◌≡◌};
+ghost use Rattle.senders.specs.Slots.{slot_in};
 
 use kinds::{PLACES, SlotNo};
 
@@ -17,21 +15,16 @@ pub use table::{all_closed, row_at};
 // The last slot that is ever closed: `last_slot` of `book`.
 pub const LAST_SLOT: u32 = 65534;
 
-// The words of the row of a sender that has joined: its first slot, its open slot, and its end + 1, or 0 where it has none.
-pub type SenderWords = [u32; ROW_LENGTH];
-
-pub const ROW_LENGTH: usize = 3;
-
-const FIRST: usize = 0;
-
-const OPEN: usize = 1;
-
-const END: usize = 2;
-
-const NO_END: u32 = 0;
+// What is kept of a sender that has joined.
+#[derive(Clone, Copy)]
+pub struct SenderRow {
+    pub first: SlotNo,
+    pub opened: SlotNo,
+    pub end: Option<SlotNo>,
+}
 
 // Row i is sender i + 1, and says nothing where that has not joined.
-pub type RowWords = [SenderWords; PLACES];
+pub type Rows = [SenderRow; PLACES];
 
 // Nothing; its first and its open slot; these and its end.
 #[derive(Clone, Copy)]
@@ -48,159 +41,130 @@ pub enum Row {
     },
 }
 
-// The slot that a word is: none is past the one behind the last, so that an end + 1 is a word too.
-fn slot_in(w: u32) -> SlotNo
-    ensures { result.0 ≡ slot_in w }
+// The slot that a number stands for: none is past the one behind the last.
+fn slot_in(slot: SlotNo) -> SlotNo
+    ensures { result.0 ≡ slot_in slot.0 }
 {
-    if LAST_SLOT < w {
-        return SlotNo(LAST_SLOT + 1);
-    }
-    SlotNo(w)
+    SlotNo(slot.0.min(LAST_SLOT + 1))
 }
 
-// The row that the words are, of a sender that has joined.
-pub fn row_in(words: SenderWords) -> Row
-    ensures { row_is result ≡ row_in words }
-{
-    let open = slot_in(words[OPEN]);
-    let end = words[END];
-    if end == NO_END {
-        return Row::Joined {
-            first: SlotNo(words[FIRST]),
-            open: open,
-        };
-    }
-    Row::Ended {
-        first: SlotNo(words[FIRST]),
-        open: open,
-        end: SlotNo(end - 1),
-    }
-}
+// The row of a sender that has joined.
+impl From<SenderRow> for Row {
+    ghost use Rattle.senders.specs.Rows.{row_is};
+    ghost use Rattle.senders.specs.Kept.{row_in};
 
-// The words of a row; a slot that it does not have is 0.
-pub fn words_of(row: Row) -> SenderWords
-    ensures { result ≡ words_of (row_is row) }
-{
-    match row {
-        Row::Unknown => [0, 0, NO_END],
-        Row::Joined { first, open } => [first.0, open.0, NO_END],
-        Row::Ended { first, open, end } => {
-            let last = slot_in(end.0);
-            [first.0, open.0, last.0 + 1]
+    ghost from_gives = { λ kept row. row_is row ≡ row_in kept };
+
+    fn from(kept: SenderRow) -> Row {
+        let first = kept.first;
+        let open = slot_in(kept.opened);
+        match kept.end {
+            None => Row::Joined { first, open },
+            Some(end) => Row::Ended { first, open, end },
         }
     }
 }
 
-pub fn has_joined(row: Row) -> bool
-    ensures { result ≡ has_joined (row_is row) }
-{
-    match row {
-        Row::Unknown => false,
-        Row::Joined { first: _, open: _ } => true,
-        Row::Ended {
-            first: _,
-            open: _,
-            end: _,
-        } => true,
-    }
-}
+// What is kept of a row; a slot that it does not have is 0.
+impl From<Row> for SenderRow {
+    ghost use Rattle.senders.specs.Rows.{row_is};
+    ghost use Rattle.senders.specs.Kept.{kept_of};
 
-// Joined, and not ended.
-pub fn is_open(row: Row) -> bool
-    ensures { result ≡ is_open (row_is row) }
-{
-    match row {
-        Row::Unknown => false,
-        Row::Joined { first: _, open: _ } => true,
-        Row::Ended {
-            first: _,
-            open: _,
-            end: _,
-        } => false,
-    }
-}
+    ghost from_gives = { λ row kept. kept ≡ kept_of (row_is row) };
 
-pub fn first_slot(row: Row) -> SlotNo
-    ensures { result.0 ≡ first_slot (row_is row) }
-{
-    match row {
-        Row::Unknown => SlotNo(0),
-        Row::Joined { first, open: _ } => first,
-        Row::Ended {
-            first,
-            open: _,
-            end: _,
-        } => first,
-    }
-}
-
-pub fn open_slot(row: Row) -> SlotNo
-    ensures { result.0 ≡ open_slot (row_is row) }
-{
-    match row {
-        Row::Unknown => SlotNo(0),
-        Row::Joined { first: _, open } => open,
-        Row::Ended {
-            first: _,
-            open,
-            end: _,
-        } => open,
-    }
-}
-
-// A member of slot n: n is not below its first slot, and is below its end, if it has one.
-pub fn is_member(row: Row, n: SlotNo) -> bool
-    ensures { result ≡ is_member n.0 (row_is row) }
-{
-    match row {
-        Row::Unknown => false,
-        Row::Joined { first, open: _ } => first.0 <= n.0,
-        Row::Ended {
-            first,
-            open: _,
-            end,
-        } => {
-            if n.0 < first.0 {
-                return false;
-            }
-            n.0 < end.0
+    fn from(row: Row) -> SenderRow {
+        match row {
+            Row::Unknown => SenderRow {
+                first: SlotNo(0),
+                opened: SlotNo(0),
+                end: None,
+            },
+            Row::Joined { first, open } => SenderRow {
+                first,
+                opened: open,
+                end: None,
+            },
+            Row::Ended { first, open, end } => SenderRow {
+                first,
+                opened: open,
+                end: Some(slot_in(end)),
+            },
         }
     }
 }
 
-// Whether the sender is no member of slot n, or has closed it.
-pub fn done_with(row: Row, n: SlotNo) -> bool
-    ensures { result ≡ done_with n.0 (row_is row) }
-{
-    if !is_member(row, n) {
-        return true;
-    }
-    let open = open_slot(row);
-    n.0 < open.0
-}
+impl Row {
+    ghost use Rattle.std.specs.Prelude.{suc};
+    ghost use Rattle.book.specs.Book.{joined, ended, has_joined, is_open, first_slot, open_slot, is_member, done_with};
+    ghost use Rattle.senders.specs.Rows.{row_is};
 
-// The row after a close: the next slot is open.
-pub fn closed(row: Row) -> Row
-    ensures { row_is result ≡ joined (first_slot (row_is row)) (suc (slot_in (open_slot (row_is row)))) }
-{
-    let first = first_slot(row);
-    let open = open_slot(row);
-    let shut = slot_in(open.0);
-    Row::Joined {
-        first: first,
-        open: SlotNo(shut.0 + 1),
+    pub fn has_joined(self) -> bool
+        ensures { result ≡ has_joined (row_is self) }
+    {
+        !matches!(self, Row::Unknown)
     }
-}
 
-// The row after an end at `slot`.
-pub fn ended(row: Row, slot: SlotNo) -> Row
-    ensures { row_is result ≡ ended (first_slot (row_is row)) (open_slot (row_is row)) slot.0 }
-{
-    let first = first_slot(row);
-    let open = open_slot(row);
-    Row::Ended {
-        first: first,
-        open: open,
-        end: slot,
+    // Joined, and not ended.
+    pub fn is_open(self) -> bool
+        ensures { result ≡ is_open (row_is self) }
+    {
+        matches!(self, Row::Joined { .. })
+    }
+
+    pub fn first_slot(self) -> SlotNo
+        ensures { result.0 ≡ first_slot (row_is self) }
+    {
+        match self {
+            Row::Unknown => SlotNo(0),
+            Row::Joined { first, .. } | Row::Ended { first, .. } => first,
+        }
+    }
+
+    pub fn open_slot(self) -> SlotNo
+        ensures { result.0 ≡ open_slot (row_is self) }
+    {
+        match self {
+            Row::Unknown => SlotNo(0),
+            Row::Joined { open, .. } | Row::Ended { open, .. } => open,
+        }
+    }
+
+    // A member of slot n: n is not below its first slot, and is below its end, if it has one.
+    pub fn is_member(self, n: SlotNo) -> bool
+        ensures { result ≡ is_member n.0 (row_is self) }
+    {
+        match self {
+            Row::Unknown => false,
+            Row::Joined { first, .. } => first.0 <= n.0,
+            Row::Ended { first, end, .. } => first.0 <= n.0 && n.0 < end.0,
+        }
+    }
+
+    // Whether the sender is no member of slot n, or has closed it.
+    pub fn done_with(self, n: SlotNo) -> bool
+        ensures { result ≡ done_with n.0 (row_is self) }
+    {
+        !self.is_member(n) || n.0 < self.open_slot().0
+    }
+
+    // The row after a close: the next slot is open.
+    pub fn closed(self) -> Row
+        ensures { row_is result ≡ joined (first_slot (row_is self)) (suc (slot_in (open_slot (row_is self)))) }
+    {
+        Row::Joined {
+            first: self.first_slot(),
+            open: SlotNo(slot_in(self.open_slot()).0 + 1),
+        }
+    }
+
+    // The row after an end at `slot`.
+    pub fn ended(self, slot: SlotNo) -> Row
+        ensures { row_is result ≡ ended (first_slot (row_is self)) (open_slot (row_is self)) slot.0 }
+    {
+        Row::Ended {
+            first: self.first_slot(),
+            open: self.open_slot(),
+            end: slot,
+        }
     }
 }

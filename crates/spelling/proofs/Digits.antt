@@ -10,11 +10,10 @@ use mathlib.Core.Path.{◌≡◌, refl, sym, ap, ◌∙◌, subst}
 use lib.Dec.{eqb, leb}
 use lib.ListN.{length, get_or, get_or-eq_default}
 use borrow.Author.Tests.{lt-ltb, le-ltb, le-leb, lt-leb, eq-eqb, ne_eqb, eqb-true, leb-true}
+use Rattle.std.specs.Prelude.{Some, None}
 use Rattle.common.proofs.Tests.{split}
 use Rattle.spelling.proofs.Places.{le_or_lt}
-use Rattle.spelling.specs.declared.Found.{Found}
-use Rattle.spelling.specs.declared.Found.TheVariants.{Got, Nothing}
-use Rattle.spelling.specs.Fields.{digit_at, more_digits, number_upto, number_at, below}
+use Rattle.spelling.specs.Fields.{Found, digit_at, more_digits, number_upto, number_at, below}
 
 -- ---- the digit at a place
 
@@ -38,12 +37,12 @@ module _ (text : List ℕ) (at : ℕ) where
 -- ---- further digits
 
 -- a turn of the reader, at a digit d that the code has found
-pub more_stop : (r : ℕ) (text : List ℕ) (at v : ℕ) {d : ℕ} → d ≡ digit_at text at → 10 ≤ d → more_digits r text at v ≡ Got v at
+pub more_stop : (r : ℕ) (text : List ℕ) (at v : ℕ) {d : ℕ} → d ≡ digit_at text at → 10 ≤ d → more_digits r text at v ≡ Some (v, at)
 unfolding more_digits
 more_stop zero text at v e h = simp (← e, le-ltb _ _ h)
 more_stop (suc r) text at v e h = simp (← e, le-ltb _ _ h)
 
-pub more_none : (text : List ℕ) (at v : ℕ) {d : ℕ} → d ≡ digit_at text at → d < 10 → more_digits 0 text at v ≡ Nothing
+pub more_none : (text : List ℕ) (at v : ℕ) {d : ℕ} → d ≡ digit_at text at → d < 10 → more_digits 0 text at v ≡ None
 unfolding more_digits
 more_none text at v e h = simp (← e, lt-ltb _ _ h)
 
@@ -93,10 +92,10 @@ module _ (width room : ℕ) (text : List ℕ) (from first : ℕ) where
   counted_none h k = record { inside = h; under = k; fits = omega (arith, below_most width room); rest = refl }
 
   module _ (at v left : ℕ) (p : Counted width room text from first at v left) {d : ℕ} (e : d ≡ digit_at text at) where
-    pub counted_stop : 10 ≤ d → Got v at ≡ more_digits room text from first
+    pub counted_stop : 10 ≤ d → Some (v, at) ≡ more_digits room text from first
     counted_stop h = sym (p.rest ∙ more_stop left text at v e h)
 
-    pub counted_over : d < 10 → left ≡ 0 → Nothing ≡ more_digits room text from first
+    pub counted_over : d < 10 → left ≡ 0 → None ≡ more_digits room text from first
     counted_over h z = sym (p.rest ∙ ap (λ (r : ℕ). more_digits r text at v) z ∙ more_none text at v e h)
 
     pub counted_more : d < 10 → (left ≡ 0 → ⊥) → Counted width room text from first (at + 1) (v * 10 + d) (left - 1)
@@ -107,13 +106,13 @@ module _ (width room : ℕ) (text : List ℕ) (from first : ℕ) where
 -- ---- a number of up to `suc more` digits
 
 module _ (more : ℕ) (text : List ℕ) (at : ℕ) {d : ℕ} (e : d ≡ digit_at text at) where
-  pub upto_none : 10 ≤ d → Nothing ≡ number_upto more text at
+  pub upto_none : 10 ≤ d → None ≡ number_upto more text at
   upto_none h = simp (← e, le-ltb _ _ h)
 
-  pub upto_zero : d < 10 → d ≡ 0 → {r : Found} → r ≡ more_digits 0 text (at + 1) d → r ≡ number_upto more text at
+  pub upto_zero : d < 10 → d ≡ 0 → {r : Found ℕ} → r ≡ more_digits 0 text (at + 1) d → r ≡ number_upto more text at
   upto_zero h z q = q ∙ simp (← e, lt-ltb _ _ h, eq-eqb _ _ z)
 
-  pub upto_more : d < 10 → (d ≡ 0 → ⊥) → {r : Found} → r ≡ more_digits more text (at + 1) d → r ≡ number_upto more text at
+  pub upto_more : d < 10 → (d ≡ 0 → ⊥) → {r : Found ℕ} → r ≡ more_digits more text (at + 1) d → r ≡ number_upto more text at
   upto_more h z q = q ∙ simp (← e, lt-ltb _ _ h, ne_eqb _ _ z)
 
 -- what a first digit is below, by how many may follow
@@ -128,7 +127,7 @@ first_more more d h = let one : suc more - more ≡ 1 = omega arith in rw (le-le
 -- ---- a number of up to 5, in one, by how many digits may follow
 
 module _ (text : List ℕ) (at : ℕ) {d : ℕ} (e : d ≡ digit_at text at) where
-  pub number_none : 10 ≤ d → Nothing ≡ number_at text at
+  pub number_none : 10 ≤ d → None ≡ number_at text at
   unfolding number_at
   number_none h = upto_none 4 text at e h
 
@@ -136,6 +135,6 @@ module _ (text : List ℕ) (at : ℕ) {d : ℕ} (e : d ≡ digit_at text at) whe
     pub number_room : d < below 5 n
     number_room = subst (λ (k : ℕ). d < below 5 k) (sym q) (split (eqb d 0) (λ z. rw z (first_none 5 d (eqb-true d 0 z))) (λ z. rw z (first_more 4 d h)))
 
-    pub number_some : {r : Found} → r ≡ more_digits n text (at + 1) d → r ≡ number_at text at
+    pub number_some : {r : Found ℕ} → r ≡ more_digits n text (at + 1) d → r ≡ number_at text at
     unfolding number_at
     number_some p = p ∙ simp (← e, lt-ltb _ _ h, q)

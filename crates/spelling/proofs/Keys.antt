@@ -8,11 +8,11 @@ use lib.Dec.{eqb}
 use lib.ListN.{length, drop, length-append, length-drop}
 use lib.Seq.{drop-drop}
 use borrow.Author.Tests.{eq-eqb, ne_eqb, eqb-true, not-true, not-false}
+use Rattle.std.specs.Prelude.{Option, Some, None}
+use Rattle.std.proofs.lemmas.Option.{some_pair_parts, none-some}
 use Rattle.common.proofs.Tests.{split}
 use Rattle.spelling.proofs.Places.{Spans}
-use Rattle.spelling.specs.declared.Found.{Found}
-use Rattle.spelling.specs.declared.Found.TheVariants.{Nothing}
-use Rattle.spelling.specs.Fields.{is_prefix, number_at, field_at}
+use Rattle.spelling.specs.Fields.{Found, is_prefix, number_at, field_at, tried}
 
 -- a key that was found stands there, and a key that stands there is found
 pub prefix_sound : (key l : List ℕ) → is_prefix key l ≡ true → l ≡ key ++ drop (length key) l
@@ -58,10 +58,29 @@ module _ (key text : List ℕ) (at : ℕ) {r : Bool} (e : r ≡ is_prefix key (d
   pub key_place : not r ≡ false → length key ≤ length text - at
   key_place h = key_fits key text at (key_is h)
 
-  pub field_none : not r ≡ true → Nothing ≡ field_at key text at
+  pub field_none : not r ≡ true → None ≡ field_at key text at
   unfolding field_at
   field_none h = rw (key_not h) refl
 
-  pub field_some : not r ≡ false → {n : Found} → n ≡ number_at text (at + length key) → n ≡ field_at key text at
+  pub field_some : not r ≡ false → {n : Found ℕ} → n ≡ number_at text (at + length key) → n ≡ field_at key text at
   unfolding field_at
   field_some h q = q ∙ rw (key_is h) refl
+
+-- ---- what was found
+
+pub same_found : {A : Type 0} {a b : A} {i j : ℕ} → ◌≡◌ {A = Found A} (Some (a, i)) (Some (b, j)) → (a ≡ b) × (i ≡ j)
+same_found {a = a} {b} {i} {j} e = some_pair_parts a b i j e
+
+pub none_found : {A B : Type 0} {a : A} → ◌≡◌ {A = Option A} None (Some a) → B
+none_found {a = a} e = absurd (none-some a e)
+
+-- ---- names
+
+-- a name that was found stands there, if each other one does
+pub tried_sound : {V : Type 0} (key_of : V → List ℕ) (text : List ℕ) (at : ℕ) (u v : V) (next : ℕ) (other : Found V) → (other ≡ Some (v, next) → Spans text at (key_of v) next)
+    → tried key_of text at u other ≡ Some (v, next) → Spans text at (key_of v) next
+tried_sound key_of text at u v next other f got = split (is_prefix (key_of u) (drop at text))
+    (λ e.
+    let same = same_found (rw e at got) in
+    rw (← same.1, ← same.0) (key_spans (key_of u) text at e))
+    (λ e. f (rw e at got))

@@ -10,16 +10,15 @@ use lib.Dec.{lit<}
 use lib.ListN.{length, get_or, length-append}
 use lib.Pow.{pow-add, pow_mono}
 use borrow.Author.Tests.{lt-ltb, le-ltb, le-leb, lt-leb, eq-eqb, ne_eqb}
-use Rattle.spelling.specs.declared.Found.{Found}
-use Rattle.spelling.specs.declared.Found.TheVariants.{Got, Nothing}
+use Rattle.std.specs.Prelude.{Some, None}
+use Rattle.spelling.proofs.Keys.{same_found, none_found}
 use Rattle.spelling.specs.Numbers.{digits}
 use Rattle.spelling.specs.Spelling.{members, world_text}
 use Rattle.spelling.specs.Stored.{Stored}
 use Rattle.spelling.specs.Storing.{sep_at}
-use Rattle.spelling.specs.Fields.{number_at}
+use Rattle.spelling.specs.Fields.{Found, number_at}
 use Rattle.spelling.specs.Reading.{bit_of, member_at, members_at, world_at}
 use Rattle.spelling.proofs.Places.{le_or_lt, byte_within}
-use Rattle.spelling.proofs.NumberTrip.{none_found}
 use Rattle.spelling.proofs.Decimals.{digits_length}
 use Rattle.spelling.proofs.Stores.{Left, left_start, left_step, left_end, left_room}
 
@@ -28,41 +27,41 @@ pow_next b = rw (← add-one b) (pow-add 2 b 1)
 
 -- ---- one member read
 
-module _ (limit : ℕ) (text : List ℕ) (at last : ℕ) {n : Found} (p : n ≡ number_at text at) where
-  pub member_none : n ≡ Nothing → Nothing ≡ member_at limit text at last
+module _ (limit : ℕ) (text : List ℕ) (at last : ℕ) {n : Found ℕ} (p : n ≡ number_at text at) where
+  pub member_none : n ≡ None → None ≡ member_at limit text at last
   unfolding member_at
   member_none q = rw (← p, q) refl
 
-  module _ (b next : ℕ) (q : n ≡ Got b next) where
-    pub member_low : b ≤ last → Nothing ≡ member_at limit text at last
+  module _ (b next : ℕ) (q : n ≡ Some (b, next)) where
+    pub member_low : b ≤ last → None ≡ member_at limit text at last
     unfolding member_at
     member_low h = rw (← p, q) (rw (le-ltb last b h) refl)
 
-    pub member_high : last < b → limit < b → Nothing ≡ member_at limit text at last
+    pub member_high : last < b → limit < b → None ≡ member_at limit text at last
     unfolding member_at
     member_high h k = rw (← p, q) (rw (lt-ltb last b h, lt-leb b limit k) refl)
 
-    pub member_got : last < b → b ≤ limit → Got b next ≡ member_at limit text at last
+    pub member_got : last < b → b ≤ limit → Some (b, next) ≡ member_at limit text at last
     unfolding member_at
     member_got h k = rw (← p, q) (rw (lt-ltb last b h, le-leb b limit k) refl)
 
 pub record MemberIs (limit : ℕ) (text : List ℕ) (at last b next : ℕ) : Type 0 where
-  pub number : number_at text at ≡ Got b next
+  pub number : number_at text at ≡ Some (b, next)
   pub above : last < b
   pub most : b ≤ limit
 
-pub member_sound : (limit : ℕ) (text : List ℕ) (at last b next : ℕ) → member_at limit text at last ≡ Got b next → MemberIs limit text at last b next
+pub member_sound : (limit : ℕ) (text : List ℕ) (at last b next : ℕ) → member_at limit text at last ≡ Some (b, next) → MemberIs limit text at last b next
 member_sound limit text at last b next got = go (number_at text at) refl
   where
-    go : (n : Found) → number_at text at ≡ n → MemberIs limit text at last b next
-    go Nothing e = none_found (member_none limit text at last refl e ∙ got)
-    go (Got v n) e =
+    go : (n : Found ℕ) → number_at text at ≡ n → MemberIs limit text at last b next
+    go None e = none_found (member_none limit text at last refl e ∙ got)
+    go (Some (v, n)) e =
         ⊎_elim (λ (low : v ≤ last). none_found (member_low limit text at last refl v n e low ∙ got))
         (λ (up : last < v).
         ⊎_elim (λ (h : v ≤ limit).
-        let same : Got v n ≡ Got b next = member_got limit text at last refl v n e up h ∙ got in
-        let a : v ≡ b = cc in
-        record { number = e ∙ same; above = omega arith; most = omega arith })
+        let same : number_at text at ≡ Some (b, next) = e ∙ (member_got limit text at last refl v n e up h ∙ got) in
+        let a : v ≡ b = (same_found (sym e ∙ same)).0 in
+        record { number = same; above = omega arith; most = omega arith })
         (λ (h : limit < v). none_found (member_high limit text at last refl v n e up h ∙ got))
         (le_or_lt v limit))
         (le_or_lt v last)
@@ -83,19 +82,19 @@ unfolding world_at
 listed_none limit text from = record { under = lit< tt; rest = refl }
 
 module _ (limit : ℕ) (text : List ℕ) (from at last world room : ℕ) (p : Listed limit text from at last world room) where
-  pub listed_over : room ≤ 0 → Nothing ≡ world_at limit text from
+  pub listed_over : room ≤ 0 → None ≡ world_at limit text from
   unfolding members_at
   listed_over h = let z : room ≡ 0 = omega arith in sym (p.rest ∙ rw z refl)
 
   counted : 0 < room → world_at limit text from ≡ members_at (suc (room - 1)) limit text at last world
   counted h = p.rest ∙ ap (λ (r : ℕ). members_at r limit text at last world) (omega arith)
 
-  module _ (h : 0 < room) {n : Found} (e : n ≡ member_at limit text at last) where
-    pub listed_fails : n ≡ Nothing → Nothing ≡ world_at limit text from
+  module _ (h : 0 < room) {n : Found ℕ} (e : n ≡ member_at limit text at last) where
+    pub listed_fails : n ≡ None → None ≡ world_at limit text from
     unfolding members_at
     listed_fails q = sym (counted h ∙ rw (← e, q) refl)
 
-    module _ (b next : ℕ) (q : n ≡ Got b next) where
+    module _ (b next : ℕ) (q : n ≡ Some (b, next)) where
       pub listed_member : MemberIs limit text at last b next
       listed_member = member_sound limit text at last b next (sym e ∙ q)
 
@@ -107,7 +106,7 @@ module _ (limit : ℕ) (text : List ℕ) (from at last world room : ℕ) (p : Li
         listed_fits k = let m = listed_member in let c : b ≤ 32 = omega (arith, m.most) in omega (arith, listed_under, pow_mono c)
 
         module _ {byte : ℕ} (t : byte ≡ get_or text next 0) where
-          pub listed_last : (byte ≡ 44 → ⊥) → Got (world + bit) next ≡ world_at limit text from
+          pub listed_last : (byte ≡ 44 → ⊥) → Some (world + bit, next) ≡ world_at limit text from
           unfolding members_at
           listed_last k = sym (counted h ∙ rw (← e, q) (rw (ne_eqb (get_or text next 0) 44 (λ z. k (t ∙ z)), s) refl))
 

@@ -1,10 +1,8 @@
--- `put_answer` meets its contract. Where 33 bytes are left there is room for both. Assumes nothing.
-use Rattle.spelling.proofs.Stores.{stored_fitting}
-use Rattle.spelling.proofs.Answers.{answer_room}
+use Rattle.spelling.proofs.Stores.{room_is, room_not, not_fitting, stored_fitting, stored_then}
 use Rattle.room.proofs.answer.put_answer.Goals as goal
 
-pub store_answer_text-requires : goal.store_answer_text-requires
-store_answer_text-requires c = answer_room _ _ _ c.has_room.ensures c.if-has_room.true
+pub returns-then-not-has_room_for_answer : goal.returns-then-not-has_room_for_answer
+returns-then-not-has_room_for_answer c = search (not_fitting, room_not)
 
-pub returns-then-has_room : goal.returns-then-has_room
-returns-then-has_room c = stored_fitting (answer_room _ _ _ c.has_room.ensures c.if-has_room.true) c.store_answer_text.ensures
+pub returns : goal.returns
+returns c = let both = stored_then c.store_field-a.ensures c.store_field.ensures in search (stored_fitting, room_is)

@@ -1,10 +1,8 @@
--- `put_number` meets its contract. With room what fits is the number, without it nothing. Assumes nothing.
-use Rattle.spelling.proofs.Stores.{short_measured, room_measured}
-use Rattle.spelling.proofs.Stores.{room_is, room_not, not_fitting, stored_fitting}
+use Rattle.spelling.proofs.Stores.{measured_out, measured_stored}
 use Rattle.room.proofs.decimal.put_number.Goals as goal
 
 pub returns-then-not-has_room : goal.returns-then-not-has_room
-returns-then-not-has_room c = search (not_fitting, room_not, short_measured)
+returns-then-not-has_room c = search measured_out
 
 pub returns : goal.returns
-returns c = search (stored_fitting, room_is, room_measured)
+returns c = search measured_stored

@@ -1,4 +1,3 @@
--- `store_field` meets its contract. Two stores in a row. Assumes nothing.
 use Rattle.spelling.proofs.Stores.{stored_then}
 use Rattle.room.proofs.decimal.store_field.Goals as goal
 

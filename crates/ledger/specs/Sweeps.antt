@@ -1,0 +1,27 @@
+-- What the passes over the sweeps of the room return: the one that looks for a slot, and the one that takes a part of the sweeps out.
+use Rattle.std.specs.Prelude.{◌≡◌, ℕ, ◌≤◌, ◌<◌, Bool, true, not, ◌&&◌, List, [], length, drop, get_or, eqb, leb}
+use Rattle.ledger.specs.declared.sweeps.Part.{Part}
+use Rattle.ledger.specs.declared.sweeps.Part.TheVariants.{Of, From}
+use Rattle.book.specs.Book.{Sweep, only}
+use Rattle.ledger.specs.declared.Sweep as code
+use Rattle.ledger.specs.Seen.{sweep_is, held_in}
+use Rattle.ledger.specs.Promises.{no_sweep}
+
+-- the sweeps of a part
+abbrev pub is_of : Part → Sweep → Bool
+is_of (Of k) w = eqb w.slot k.0
+is_of (From s e) w = eqb w.sender s.0 && leb e.0 w.slot
+
+-- none of the sweeps is of slot k
+abbrev pub NoneOf : ℕ → List Sweep → Type 0
+NoneOf k l = only (λ w. eqb w.slot k) l ≡ []
+
+-- r is the place of the first that is of slot k, or how many there are where none is
+abbrev pub FirstOf : ℕ → List code.Sweep → ℕ → Type 0
+FirstOf k room r = (r ≤ length room) × NoneOf k (held_in r room) × (r < length room → eqb (sweep_is (get_or room r no_sweep)).slot k ≡ true)
+
+-- what is left of the first k stands at the front, in order, r of them; what is past them stays
+pub record TakesOut (p : Sweep → Bool) (k : ℕ) (room : List code.Sweep) (r : ℕ) (room' : List code.Sweep) : Type 0 where
+  pub count_is : r ≡ length (only (λ w. not (p w)) (held_in k room))
+  pub held_is : held_in r room' ≡ only (λ w. not (p w)) (held_in k room)
+  pub past_is : drop r room' ≡ drop r room

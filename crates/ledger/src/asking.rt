@@ -1,0 +1,78 @@
+// The checks of each step, in their order. Each asks first whether the number is a sender's; a sender's answer then goes by its row.
+ghost use Rattle.std.specs.Prelude.{◌≡◌, true, false, ℕ, suc, ◌≤◌, ◌<◌, length, ltb, OnOk, IfOk, IfErr};
+ghost use Rattle.common.specs.Benches.{is_bench};
+ghost use Rattle.book.specs.Book.{last_slot, Book, join, sweep, close, end, step, open_slot};
+ghost use Rattle.kinds.specs.Refusals.{answer_of};
+ghost use Rattle.kinds.specs.Sizes.{benches_of, places};
+ghost use Rattle.senders.specs.Rows.{row_is};
+ghost use Rattle.ledger.specs.Seen.{room_words};
+
+use crate::{LAST_SLOT, ROOM};
+use kinds::{BenchNo, Refusal, Size, SlotNo};
+use senders::Row;
+use sets::{is_bench, place};
+
+// The place of a sender's row.
+pub(crate) fn seat(sender: BenchNo, size: Size) -> Result<usize, Refusal>
+    ensures ok { IfOk result (λ i. (is_bench (benches_of size) sender.0 ≡ true) × (suc i ≡ sender.0) × (i < places)) }
+    ensures err { IfErr result (λ r. (is_bench (benches_of size) sender.0 ≡ false) × (r ≡ Refusal.NoSuchBench)) }
+{
+    if is_bench(sender, size) {
+        Ok(place(sender))
+    } else {
+        Err(Refusal::NoSuchBench)
+    }
+}
+
+pub(crate) fn may_join(row: Row, next: SlotNo, first: SlotNo) -> Result<(), Refusal>
+    ensures { (n : ℕ) (b : Book) (s : ℕ) → is_bench n s ≡ true → b.rows s ≡ row_is row → b.next ≡ next.0 → answer_of result ≡ (step n b (join s first.0)).number }
+{
+    if row.has_joined() {
+        return Err(Refusal::JoinedAlready);
+    }
+    if first.0 < next.0 || LAST_SLOT < first.0 {
+        return Err(Refusal::WrongFirstSlot);
+    }
+    Ok(())
+}
+
+pub(crate) fn may_close(row: Row) -> Result<(), Refusal>
+    ensures { (n : ℕ) (b : Book) (s : ℕ) → is_bench n s ≡ true → b.rows s ≡ row_is row → answer_of result ≡ (step n b (close s)).number }
+{
+    if !row.is_open() {
+        return Err(Refusal::NotJoined);
+    }
+    if LAST_SLOT < row.open_slot().0 {
+        return Err(Refusal::PastLastSlot);
+    }
+    Ok(())
+}
+
+pub(crate) fn may_sweep(row: Row, held: u32) -> Result<(), Refusal>
+    ensures number { (n : ℕ) (b : Book) (s tag : ℕ) → is_bench n s ≡ true → b.rows s ≡ row_is row → ltb (length b.held) room_words ≡ ltb held room_words → answer_of result ≡ (step n b (sweep s tag)).number }
+    ensures fits { OnOk result ((open_slot (row_is row) ≤ last_slot) × (held < room_words)) }
+{
+    may_close(row)?;
+    if ROOM as u32 <= held {
+        return Err(Refusal::StoreFull);
+    }
+    Ok(())
+}
+
+pub(crate) fn may_end(row: Row, next: SlotNo, slot: SlotNo) -> Result<(), Refusal>
+    ensures { (n : ℕ) (b : Book) (s : ℕ) → is_bench n s ≡ true → b.rows s ≡ row_is row → b.next ≡ next.0 → answer_of result ≡ (step n b (end s slot.0)).number }
+{
+    if !row.has_joined() {
+        return Err(Refusal::NotJoined);
+    }
+    if !row.is_open() {
+        return Err(Refusal::EndedAlready);
+    }
+    if row.open_slot().0 < slot.0 {
+        return Err(Refusal::EndAboveOpen);
+    }
+    if slot.0 < next.0 {
+        return Err(Refusal::EndBelowNext);
+    }
+    Ok(())
+}

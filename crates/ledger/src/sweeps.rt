@@ -1,0 +1,88 @@
+// The sweeps of the room: the first of a slot, and a part of them taken out.
+ghost use Rattle.std.specs.Prelude.{◌≡◌, [], false, ◌≤◌, length, eqb, map};
+ghost use Rattle.book.specs.Book.{only};
+ghost use Rattle.ledger.specs.Seen.{sweep_is, held_in};
+ghost use Rattle.ledger.specs.Sweeps.{is_of, NoneOf, FirstOf, TakesOut};
+
+use crate::Sweep;
+use kinds::{BenchNo, SlotNo};
+
+// How many sweeps are compared at once, without a branch between: the compiler makes vector code of it.
+const BLOCK: usize = 8;
+
+// The sweeps that a step takes out: those of a slot, or those of a sender from a slot on.
+#[derive(Clone, Copy)]
+pub(crate) enum Part {
+    Of(SlotNo),
+    From(BenchNo, SlotNo),
+}
+
+impl Sweep {
+    pub(crate) fn is_of(self, slot: SlotNo) -> bool
+        ensures { result ≡ eqb (sweep_is self).slot slot.0 }
+    {
+        self.slot as u32 == slot.0
+    }
+
+    fn is_in(self, part: Part) -> bool
+        ensures { result ≡ is_of part (sweep_is self) }
+    {
+        match part {
+            Part::Of(slot) => self.is_of(slot),
+            Part::From(sender, slot) => {
+                self.sender as u32 == sender.0 && slot.0 <= self.slot as u32
+            }
+        }
+    }
+}
+
+// The place of the first sweep of the slot, or how many there are: they are passed by blocks, then one by one.
+pub(crate) fn skipped(sweeps: &[Sweep], slot: SlotNo) -> usize
+    ensures { FirstOf slot.0 sweeps.now result }
+{
+    let passed = passed_blocks(sweeps, slot);
+    match sweeps[passed..].iter().position(|sweep| sweep.is_of(slot)) {
+        Some(k) => passed + k,
+        None => sweeps.len(),
+    }
+}
+
+// How many sweeps stand in the blocks before the first one that has a sweep of the slot.
+fn passed_blocks(sweeps: &[Sweep], slot: SlotNo) -> usize
+    ensures { (result ≤ length sweeps.now) × NoneOf slot.0 (held_in result sweeps.now) }
+{
+    let mut passed = 0;
+    for block in sweeps.chunks_exact(BLOCK) {
+        if any_of(block, slot) {
+            break;
+        }
+        passed += BLOCK;
+    }
+    passed
+}
+
+// Whether a sweep is of the slot.
+fn any_of(block: &[Sweep], slot: SlotNo) -> bool
+    ensures { result ≡ false → NoneOf slot.0 (map sweep_is block.now) }
+{
+    block
+        .iter()
+        .fold(false, |found, sweep| found | sweep.is_of(slot))
+}
+
+// Takes a part out of the first `held` sweeps, of which none before `from` is of it: what is left moves to the front, in order, and the
+// sweeps past it stay. How many are left.
+pub(crate) fn take_out(room: &mut [Sweep], from: usize, held: usize, part: Part) -> usize
+    requires { (from ≤ held) × (held ≤ length room.old) × (only (is_of part) (held_in from room.old) ≡ []) }
+    ensures { TakesOut (is_of part) held room.old result room.new }
+{
+    let mut k = from;
+    for i in from..held {
+        let sweep = room[i];
+        if !sweep.is_in(part) {
+            room[k] = sweep;
+            k += 1;
+        }
+    }
+    k
+}

@@ -1,0 +1,3 @@
+-- Lemmas of this crate.
+pub mod Cuts
+pub mod Digits
