@@ -8,14 +8,15 @@ use mathlib.Core.Path.{◌≡◌, refl, sym, ◌∙◌}
 use lib.Dec.{eqb}
 use lib.ListN.{length, length-append}
 use borrow.Author.Tests.{ne_eqb, eq-eqb, le-leb}
-use Rattle.published.specs.Rounds.{Out}
+use Rattle.published.specs.Rounds.{Out, failed}
 use Rattle.common.specs.Benches.{is_bench}
 use Rattle.common.proofs.Tests.{cond_ind}
 use Rattle.kinds.specs.Sizes.{places}
 use Rattle.tables.specs.Runs.{messages_to, line_of, state_of, bench_of, run_by, run_of}
 use Rattle.tables.proofs.States.{fresh_is}
-use Rattle.reads.specs.declared.Decision.{Decision as Decided}
 use Rattle.reads.specs.Decisions.{decision_is}
+use Rattle.std.specs.Prelude.{Option}
+use Rattle.kinds.specs.declared.SlotNo.{SlotNo}
 use Rattle.reads.specs.Reads.{state_word, sent_word, decision_at}
 use Rattle.spelling.specs.Numbers.{ascii, digits}
 use Rattle.spelling.specs.Stored.{Stored}
@@ -71,30 +72,22 @@ rows_short t (suc n) = omega (arith, length-append (row_lines t n) (row_line t (
 
 -- ---- a line stored
 
--- the text of a state, and of a decision, that is known by a test
-module _ {l l' : List ℕ} {at next : ℕ} where
-  pub state_put : (w m : ℕ) → w ≡ m → Put l at (state_text (state_of m)) next l' → Put l at (state_text (state_of w)) next l'
-  state_put w m e p = rw e p
-
-  pub failed_put : (w : ℕ) → (w ≡ 0 → ⊥) → (w ≡ 1 → ⊥) → (w ≡ 2 → ⊥) → (w ≡ 3 → ⊥) → (w ≡ 4 → ⊥)
-      → Put l at (ascii "failed") next l' → Put l at (state_text (state_of w)) next l'
-  unfolding state_of state_text
-  failed_put zero h₀ h₁ h₂ h₃ h₄ p = absurd (h₀ refl)
-  failed_put (suc zero) h₀ h₁ h₂ h₃ h₄ p = absurd (h₁ refl)
-  failed_put (suc (suc zero)) h₀ h₁ h₂ h₃ h₄ p = absurd (h₂ refl)
-  failed_put (suc (suc (suc zero))) h₀ h₁ h₂ h₃ h₄ p = absurd (h₃ refl)
-  failed_put (suc (suc (suc (suc zero)))) h₀ h₁ h₂ h₃ h₄ p = absurd (h₄ refl)
-  failed_put (suc (suc (suc (suc (suc n))))) h₀ h₁ h₂ h₃ h₄ p = p
-
-  pub value_put : (d e : Decided) → d ≡ e → Put l at (value_text (decision_is e)) next l' → Put l at (value_text (decision_is d)) next l'
-  value_put d e h p = rw h p
+-- whoever has none of the other states has failed
+pub above_failed : (w : ℕ) → (w ≡ 0 → ⊥) → (w ≡ 1 → ⊥) → (w ≡ 2 → ⊥) → (w ≡ 3 → ⊥) → (w ≡ 4 → ⊥) → state_of w ≡ failed
+unfolding state_of
+above_failed zero h₀ h₁ h₂ h₃ h₄ = absurd (h₀ refl)
+above_failed (suc zero) h₀ h₁ h₂ h₃ h₄ = absurd (h₁ refl)
+above_failed (suc (suc zero)) h₀ h₁ h₂ h₃ h₄ = absurd (h₂ refl)
+above_failed (suc (suc (suc zero))) h₀ h₁ h₂ h₃ h₄ = absurd (h₃ refl)
+above_failed (suc (suc (suc (suc zero)))) h₀ h₁ h₂ h₃ h₄ = absurd (h₄ refl)
+above_failed (suc (suc (suc (suc (suc n))))) h₀ h₁ h₂ h₃ h₄ = refl
 
 module _ (t : List (List ℕ)) (b state : ℕ) (e : state ≡ state_word t b) where
   pub fresh_stored : (l : List ℕ) (at : ℕ) → state ≡ 0 → Stored l at (row_line t b) at l
   unfolding row_line
   fresh_stored l at z = rw (eq-eqb (state_word t b) 0 (sym e ∙ z)) (stored_nil l at)
 
-  pub row_stored : (sent : ℕ) (d : Decided) → sent ≡ sent_word t b → decision_is d ≡ decision_at t b → (state ≡ 0 → ⊥)
+  pub row_stored : (sent : ℕ) (d : Option SlotNo) → sent ≡ sent_word t b → decision_is d ≡ decision_at t b → (state ≡ 0 → ⊥)
       → {l l₁ l₂ l₃ l₄ l₅ l₆ l₇ : List ℕ} {at n₁ n₂ n₃ n₄ n₅ n₆ n₇ : ℕ}
       → Put l at (ascii "bench=" ++ digits b) n₁ l₁ → Put l₁ n₁ (ascii " state=") n₂ l₂ → Put l₂ n₂ (state_text (state_of state)) n₃ l₃
       → Put l₃ n₃ (ascii " round=" ++ digits sent) n₄ l₄ → Put l₄ n₄ (ascii " value=") n₅ l₅ → Put l₅ n₅ (value_text (decision_is d)) n₆ l₆

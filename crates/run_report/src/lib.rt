@@ -1,6 +1,6 @@
 // A text played and its report, for a caller that lends the room. The text is read once and the report is written once: the answers
 // are kept, one byte a line, so that the room is measured before its first byte is written.
-// The contracts cite crate `reports`: `run_report_of`, the report that document 01 wants, and `Reports`.
+// The contracts cite crate `reports`: `run_report_of`, the report that docs/SCOPE.md wants, and `Reports`.
 
 #![tactic(auto)]
 

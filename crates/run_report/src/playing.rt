@@ -1,5 +1,6 @@
 // A text played on two tables, line by line.
 ghost use Rattle.std.specs.Prelude.{◌≡◌, ◌≤◌, length};
+ghost use Rattle.kinds.specs.Refusals.{answer_of};
 ghost use Rattle.kinds.specs.Sizes.{benches_of};
 ghost use Rattle.tables.specs.Runs.{run_of};
 ghost use Rattle.tables.specs.Sound.{Sound};
@@ -8,10 +9,9 @@ ghost use Rattle.tables.specs.Meets.{Links};
 ghost use Rattle.reports.specs.RunReport.{answer_to};
 ghost use Rattle.run_report.specs.Parts.{Played};
 
-use kinds::{AnswerNo, Size};
+use kinds::{Refusal, Size, Step, answer_number};
 use rounds::step;
 use run_text::read_line;
-use spelling::{Read, Said};
 use tables::{Benches, Logs};
 
 // Plays the text from the empty tables. Answers how many lines it has, and keeps the answer of each, one byte a line.
@@ -29,23 +29,24 @@ pub(crate) fn play(
 {
     let mut at = 0;
     let mut count = 0;
-    loop {
-        let Read::Next(line, next) = read_line(text, at, size) else {
-            return count;
-        };
-        answers[count] = answer_to(&mut *benches, &mut *logs, line, size);
+    while let Some((line, next)) = read_line(text, at, size) {
+        answers[count] = answer_number(play_line(&mut *benches, &mut *logs, line, size));
         count += 1;
         at = next;
     }
+    count
 }
 
-// What a line is answered. A malformed one changes nothing.
-fn answer_to(benches: &mut Benches, logs: &mut Logs, line: Said, size: Size) -> AnswerNo
+// Plays a line. A malformed one changes nothing.
+fn play_line(
+    benches: &mut Benches,
+    logs: &mut Logs,
+    line: Option<Step>,
+    size: Size,
+) -> Result<(), Refusal>
     requires { Sound (benches_of size) benches.old logs.old }
-    ensures { Links (benches_of size) (refused result benches.new logs.new) (answer_to size (run_of benches.old logs.old) line) }
+    ensures { Links (benches_of size) (refused (answer_of result) benches.new logs.new) (answer_to size (run_of benches.old logs.old) line) }
 {
-    match line {
-        Said::Does(s) => step(&mut *benches, &mut *logs, s, size),
-        Said::Malformed => 20,
-    }
+    let s = line.ok_or(Refusal::Malformed)?;
+    step(benches, logs, s, size)
 }
