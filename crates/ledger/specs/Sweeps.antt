@@ -1,16 +1,16 @@
 -- What the passes over the sweeps of the room return: the one that looks for a slot, and the one that takes a part of the sweeps out.
-use Rattle.std.specs.Prelude.{◌≡◌, ℕ, ◌≤◌, ◌<◌, Bool, true, not, ◌&&◌, List, [], length, drop, get_or, eqb, leb}
-use Rattle.ledger.specs.declared.sweeps.Part.{Part}
-use Rattle.ledger.specs.declared.sweeps.Part.TheVariants.{Of, From}
+use Rattle.std.specs.Prelude.{◌≡◌, ℕ, ◌≤◌, ◌<◌, Bool, true, not, List, [], length, drop, get_or, eqb}
 use Rattle.book.specs.Book.{Sweep, only}
 use Rattle.ledger.specs.declared.Sweep as code
 use Rattle.ledger.specs.Seen.{sweep_is, held_in}
 use Rattle.ledger.specs.Promises.{no_sweep}
 
--- the sweeps of a part
-abbrev pub is_of : Part → Sweep → Bool
-is_of (Of k) w = eqb w.slot k.0
-is_of (From s e) w = eqb w.sender s.0 && leb e.0 w.slot
+-- which sweeps go, and that a function of the code tells them
+abbrev pub Gone : Type 0
+Gone = Sweep → Bool
+
+abbrev pub Tests : (code.Sweep → Bool → Type 0) → Gone → Type 0
+Tests post p = (w : code.Sweep) (t : Bool) → post w t → t ≡ p (sweep_is w)
 
 -- none of the sweeps is of slot k
 abbrev pub NoneOf : ℕ → List Sweep → Type 0

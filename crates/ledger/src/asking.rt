@@ -1,7 +1,7 @@
 // The checks of each step, in their order. Each asks first whether the number is a sender's; a sender's answer then goes by its row.
 ghost use Rattle.std.specs.Prelude.{◌≡◌, true, false, ℕ, suc, ◌≤◌, ◌<◌, length, ltb, OnOk, IfOk, IfErr};
 ghost use Rattle.common.specs.Benches.{is_bench};
-ghost use Rattle.book.specs.Book.{last_slot, Book, join, sweep, close, end, step, open_slot};
+ghost use Rattle.book.specs.Book.{last_slot, Book, join, sweep, close, end, step, is_open, open_slot};
 ghost use Rattle.kinds.specs.Refusals.{answer_of};
 ghost use Rattle.kinds.specs.Sizes.{benches_of, places};
 ghost use Rattle.senders.specs.Rows.{row_is};
@@ -37,7 +37,8 @@ pub(crate) fn may_join(row: Row, next: SlotNo, first: SlotNo) -> Result<(), Refu
 }
 
 pub(crate) fn may_close(row: Row) -> Result<(), Refusal>
-    ensures { (n : ℕ) (b : Book) (s : ℕ) → is_bench n s ≡ true → b.rows s ≡ row_is row → answer_of result ≡ (step n b (close s)).number }
+    ensures ok { OnOk result ((is_open (row_is row) ≡ true) × (open_slot (row_is row) ≤ last_slot)) }
+    ensures number { (n : ℕ) (b : Book) (s : ℕ) → is_bench n s ≡ true → b.rows s ≡ row_is row → answer_of result ≡ (step n b (close s)).number }
 {
     if !row.is_open() {
         return Err(Refusal::NotJoined);
@@ -50,7 +51,7 @@ pub(crate) fn may_close(row: Row) -> Result<(), Refusal>
 
 pub(crate) fn may_sweep(row: Row, held: u32) -> Result<(), Refusal>
     ensures number { (n : ℕ) (b : Book) (s tag : ℕ) → is_bench n s ≡ true → b.rows s ≡ row_is row → ltb (length b.held) room_words ≡ ltb held room_words → answer_of result ≡ (step n b (sweep s tag)).number }
-    ensures fits { OnOk result ((open_slot (row_is row) ≤ last_slot) × (held < room_words)) }
+    ensures ok { OnOk result ((open_slot (row_is row) ≤ last_slot) × (held < room_words)) }
 {
     may_close(row)?;
     if ROOM as u32 <= held {

@@ -149,7 +149,9 @@ impl Ledger {
         let row = row_at(self.cursor.joined, &self.rows, i);
         may_end(row, self.cursor.next, slot)?;
         let held = self.held();
-        let left = take_out(&mut self.room, 0, held, sweeps::Part::From(sender, slot));
+        let left = take_out(&mut self.room, 0, held, |sweep| {
+            sweep.sender as u32 == sender.0 && slot.0 <= sweep.slot as u32
+        });
         self.rows[i] = SenderRow::from(row.ended(slot));
         self.cursor.held = left as u32;
         Ok(())
@@ -191,7 +193,7 @@ impl Ledger {
             return Err(Refusal::ShortRoom);
         }
         order::place(&self.room[from..held], next, &mut seats, out, size);
-        let left = take_out(&mut self.room, from, held, sweeps::Part::Of(next));
+        let left = take_out(&mut self.room, from, held, |sweep| sweep.is_of(next));
         advance(&mut self.cursor, left as u32);
         Ok(total)
     }

@@ -2,37 +2,19 @@
 ghost use Rattle.std.specs.Prelude.{◌≡◌, [], false, ◌≤◌, length, eqb, map};
 ghost use Rattle.book.specs.Book.{only};
 ghost use Rattle.ledger.specs.Seen.{sweep_is, held_in};
-ghost use Rattle.ledger.specs.Sweeps.{is_of, NoneOf, FirstOf, TakesOut};
+ghost use Rattle.ledger.specs.Sweeps.{NoneOf, FirstOf, Gone, Tests, TakesOut};
 
 use crate::Sweep;
-use kinds::{BenchNo, SlotNo};
+use kinds::SlotNo;
 
 // How many sweeps are compared at once, without a branch between: the compiler makes vector code of it.
 const BLOCK: usize = 8;
-
-// The sweeps that a step takes out: those of a slot, or those of a sender from a slot on.
-#[derive(Clone, Copy)]
-pub(crate) enum Part {
-    Of(SlotNo),
-    From(BenchNo, SlotNo),
-}
 
 impl Sweep {
     pub(crate) fn is_of(self, slot: SlotNo) -> bool
         ensures { result ≡ eqb (sweep_is self).slot slot.0 }
     {
         self.slot as u32 == slot.0
-    }
-
-    fn is_in(self, part: Part) -> bool
-        ensures { result ≡ is_of part (sweep_is self) }
-    {
-        match part {
-            Part::Of(slot) => self.is_of(slot),
-            Part::From(sender, slot) => {
-                self.sender as u32 == sender.0 && slot.0 <= self.slot as u32
-            }
-        }
     }
 }
 
@@ -70,16 +52,23 @@ fn any_of(block: &[Sweep], slot: SlotNo) -> bool
         .fold(false, |found, sweep| found | sweep.is_of(slot))
 }
 
-// Takes a part out of the first `held` sweeps, of which none before `from` is of it: what is left moves to the front, in order, and the
+// Takes out of the first `held` sweeps those that go, of which none stands before `from`: what is left moves to the front, in order, and the
 // sweeps past it stay. How many are left.
-pub(crate) fn take_out(room: &mut [Sweep], from: usize, held: usize, part: Part) -> usize
-    requires { (from ≤ held) × (held ≤ length room.old) × (only (is_of part) (held_in from room.old) ≡ []) }
-    ensures { TakesOut (is_of part) held room.old result room.new }
+pub(crate) fn take_out<F: Fn(Sweep) -> bool>(
+    room: &mut [Sweep],
+    from: usize,
+    held: usize,
+    goes: F,
+) -> usize
+    requires callable { F.IsAlwaysCallable goes }
+    requires within { (from ≤ held) × (held ≤ length room.old) }
+    ensures few { result ≤ held }
+    ensures taken { (p : Gone) → Tests (F.post goes) p → only p (held_in from room.old) ≡ [] → TakesOut p held room.old result room.new }
 {
     let mut k = from;
     for i in from..held {
         let sweep = room[i];
-        if !sweep.is_in(part) {
+        if !goes(sweep) {
             room[k] = sweep;
             k += 1;
         }

@@ -3,7 +3,7 @@ use Prim.Native.Nat.{ℕ, zero, suc, ◌+◌, ◌-◌, ◌≤◌, ◌<◌}
 use native.Mathlib.Omega.{arith}
 use native.Mathlib.Numerals.{add-one}
 use mathlib.Core.List.{List, [], ◌∷◌, ◌++◌}
-use mathlib.Core.Path.{◌≡◌, refl}
+use mathlib.Core.Path.{◌≡◌, refl, ap, ◌∙◌}
 use lib.ListN.{length, length-append}
 use Rattle.spelling.specs.Numbers.{ascii, digits}
 use Rattle.spelling.specs.Stored.{Stored}
@@ -60,14 +60,15 @@ module _ (s : ℕ) (row : code.Row) (l : List ℕ) (at : ℕ) where
 
 -- ---- the lines stored, sender by sender
 
--- the lines of the first k senders of n are stored; room₀ held what was there before
-pub record Listed (n : ℕ) (room₀ : List ℕ) (at : ℕ) (rows : ℕ → Row) (room : List ℕ) (next k : ℕ) : Type 0 where
-  pub upto : k ≤ n
-  pub stored : Stored room₀ at (sender_lines k rows) next room
+-- of n senders the lines of those below s are stored; room₀ held what was there before
+pub record Listed (n : ℕ) (room₀ : List ℕ) (at : ℕ) (rows : ℕ → Row) (room : List ℕ) (next s : ℕ) : Type 0 where
+  pub upto : s ≤ n + 1
+  pub stored : Stored room₀ at (sender_lines (s - 1) rows) next room
 
-lines_next : (rows : ℕ → Row) (k : ℕ) → sender_lines (k + 1) rows ≡ sender_lines k rows ++ sender_line (k + 1) (rows (k + 1))
+lines_next : (rows : ℕ → Row) (s : ℕ) → 1 ≤ s → sender_lines (s + 1 - 1) rows ≡ sender_lines (s - 1) rows ++ sender_line s (rows s)
 unfolding sender_lines
-lines_next rows k = rw add-one refl
+lines_next rows zero h = absurd (omega arith)
+lines_next rows (suc k) h = let e : suc k + 1 - 1 ≡ suc k = omega arith in let d : suc k - 1 ≡ k = omega arith in rw (e, d) refl
 
 -- the lines of some senders are not longer than those of more
 lines_grow : (rows : ℕ → Row) (k d : ℕ) → length (sender_lines k rows) ≤ length (sender_lines (k + d) rows)
@@ -77,22 +78,23 @@ lines_grow rows k (suc d) =
     let e : k + suc d ≡ suc (k + d) = omega arith in
     rw e (omega (arith, lines_grow rows k d, length-append (sender_lines (k + d) rows) (sender_line (suc (k + d)) (rows (suc (k + d))))))
 
-module _ (m : ℕ) (room₀ : List ℕ) (at : ℕ) (rows : ℕ → Row) where
-  pub listed_none : Listed m room₀ at rows room₀ at 0
+module _ (n : ℕ) (room₀ : List ℕ) (at : ℕ) (rows : ℕ → Row) where
+  pub listed_none : Listed n room₀ at rows room₀ at 1
   unfolding sender_lines
   listed_none = record { upto = omega arith; stored = stored_nil room₀ at }
 
-  module _ (room : List ℕ) (next k : ℕ) (p : Listed m room₀ at rows room next k) (h : k < m) (row : code.Row) (e : row_is row ≡ rows (k + 1)) where
-    pub listed_room : (n : ℕ) → m ≡ n → at + length (sender_lines n rows) ≤ length room₀ → next + length (sender_line (k + 1) (row_is row)) ≤ length room
-    listed_room n many r =
-        let w = sender_line (k + 1) (row_is row) in
-        let all : k + 1 + (n - (k + 1)) ≡ n = omega arith in
-        let g : length (sender_lines (k + 1) rows) ≤ length (sender_lines n rows) = rw all at (lines_grow rows (k + 1) (n - (k + 1))) in
-        let s : length (sender_lines (k + 1) rows) ≡ length (sender_lines k rows) + length w = rw (lines_next rows k, ← e, length-append) refl in
-        omega (arith, p.stored.place, stored_length p.stored)
+  module _ (room : List ℕ) (next s : ℕ) (p : Listed n room₀ at rows room next s) where
+    module _ (g : 1 ≤ s) (h : s ≤ n) (row : code.Row) (e : row_is row ≡ rows s) where
+      pub listed_room : (m : ℕ) → n ≡ m → at + length (sender_lines m rows) ≤ length room₀ → next + length (sender_line s (row_is row)) ≤ length room
+      listed_room m many r =
+          let all : s + (m - s) ≡ m = omega arith in
+          let last : s + 1 - 1 ≡ s = omega arith in
+          let u : length (sender_lines s rows) ≤ length (sender_lines m rows) = rw all at (lines_grow rows s (m - s)) in
+          let v : length (sender_lines s rows) ≡ length (sender_lines (s - 1) rows) + length (sender_line s (row_is row)) = rw e (ap length (rw last at (lines_next rows s g)) ∙ length-append (sender_lines (s - 1) rows) (sender_line s (rows s))) in
+          omega (arith, p.stored.place, stored_length p.stored)
 
-    pub listed_more : (room' : List ℕ) (last : ℕ) → Stored room next (sender_line (k + 1) (row_is row)) last room' → Listed m room₀ at rows room' last (k + 1)
-    listed_more room' last s = record { upto = omega arith; stored = rw (lines_next, ← e) (stored_then p.stored s) }
+      pub listed_more : (room' : List ℕ) (last : ℕ) → Stored room next (sender_line s (row_is row)) last room' → Listed n room₀ at rows room' last (s + 1)
+      listed_more room' last t = record { upto = omega arith; stored = rw (lines_next rows s g, ← e) (stored_then p.stored t) }
 
-  pub listed_all : (room : List ℕ) (next k : ℕ) → Listed m room₀ at rows room next k → m ≤ k → (n : ℕ) → m ≡ n → Stored room₀ at (sender_lines n rows) next room
-  listed_all room next k p h n many = let e : k ≡ n = omega (arith, p.upto) in rw e at p.stored
+    pub listed_all : (m : ℕ) → n ≡ m → n < s → Stored room₀ at (sender_lines m rows) next room
+    listed_all m many h = let e : s - 1 ≡ m = omega (arith, p.upto) in rw e at p.stored

@@ -3,59 +3,51 @@ ghost use Rattle.std.specs.Prelude.{◌+◌, ◌≤◌, length};
 ghost use Rattle.kinds.specs.Sizes.{benches_of};
 ghost use Rattle.spelling.specs.Stored.{Stored};
 ghost use Rattle.senders.specs.Rows.{row_is};
+ghost use Rattle.ledger.specs.Seen.{rows_by};
 ghost use Rattle.reports.specs.LedgerReport.{slots_text, sender_line, sender_lines};
-ghost use Rattle.ledger_report.specs.Parts.{seen_rows};
 
-use kinds::{BenchNo, Size};
-use ledger::{CursorWords, Row, RowWords, row_of};
+use kinds::{BenchNo, Size, SlotNo};
+use ledger::{Ledger, Row};
 use room::bytes::put_bytes;
 use room::decimal::put_field;
 use sets::benches_of;
 
-pub(crate) fn store_senders(
-    room: &mut [u8],
-    at: usize,
-    cursor: &CursorWords,
-    rows: &RowWords,
-    size: Size,
-) -> usize
-    requires { at + length (sender_lines (benches_of size) (seen_rows cursor.now rows.now)) ≤ length room.old }
-    ensures { Stored room.old at (sender_lines (benches_of size) (seen_rows cursor.now rows.now)) result room.new }
+pub(crate) fn store_senders(room: &mut [u8], at: usize, ledger: &Ledger, size: Size) -> usize
+    requires { at + length (sender_lines (benches_of size) (rows_by ledger.now)) ≤ length room.old }
+    ensures { Stored room.old at (sender_lines (benches_of size) (rows_by ledger.now)) result room.new }
 {
-    let many = benches_of(size);
     let mut next = at;
-    for k in 0..many {
-        let s = k + 1;
-        let row = row_of(cursor, rows, BenchNo(s));
-        next = store_sender(room, next, s, row);
+    for s in 1..=benches_of(size) {
+        let sender = BenchNo(s);
+        next = store_sender(room, next, sender, ledger.row_of(sender));
     }
     next
 }
 
 // A sender that has not joined has no line.
-fn store_sender(room: &mut [u8], at: usize, sender: u32, row: Row) -> usize
-    requires { at + length (sender_line sender (row_is row)) ≤ length room.old }
-    ensures { Stored room.old at (sender_line sender (row_is row)) result room.new }
+fn store_sender(room: &mut [u8], at: usize, sender: BenchNo, row: Row) -> usize
+    requires { at + length (sender_line sender.0 (row_is row)) ≤ length room.old }
+    ensures { Stored room.old at (sender_line sender.0 (row_is row)) result room.new }
 {
     match row {
         Row::Unknown => at,
         Row::Joined { first, open } => {
-            let a = store_slots(room, at, sender, first.0, open.0);
+            let a = store_slots(room, at, sender, first, open);
             put_bytes(room, a, b" end=none\n")
         }
         Row::Ended { first, open, end } => {
-            let a = store_slots(room, at, sender, first.0, open.0);
+            let a = store_slots(room, at, sender, first, open);
             let b = put_field(room, a, b" end=", end.0);
             put_bytes(room, b, b"\n")
         }
     }
 }
 
-fn store_slots(room: &mut [u8], at: usize, sender: u32, first: u32, opened: u32) -> usize
-    requires { at + length (slots_text sender first opened) ≤ length room.old }
-    ensures { Stored room.old at (slots_text sender first opened) result room.new }
+fn store_slots(room: &mut [u8], at: usize, sender: BenchNo, first: SlotNo, opened: SlotNo) -> usize
+    requires { at + length (slots_text sender.0 first.0 opened.0) ≤ length room.old }
+    ensures { Stored room.old at (slots_text sender.0 first.0 opened.0) result room.new }
 {
-    let a = put_field(room, at, b"sender=", sender);
-    let b = put_field(room, a, b" first=", first);
-    put_field(room, b, b" open=", opened)
+    let a = put_field(room, at, b"sender=", sender.0);
+    let b = put_field(room, a, b" first=", first.0);
+    put_field(room, b, b" open=", opened.0)
 }

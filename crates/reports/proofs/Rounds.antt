@@ -1,5 +1,5 @@
--- How far the rounds of a report go. W8: a text's steps are those of its first k lines and then those of the lines behind them, so theorem 5.4 and its
--- corollary speak of what is printed. W9: so does the highest round, and no line is answered 12. Assumes nothing.
+-- How far the rounds of a report go. A text's steps are those of its first k lines and then those of the lines behind them, so what docs/PAUSE.md
+-- says of rounds holds of what is printed; so does the bound of docs/ROUNDS.md, and no line is answered 12. Assumes nothing.
 use mathlib.Core.Path.{◌≡◌, refl, ap}
 use mathlib.Core.List.{List, [], ◌∷◌, ◌++◌}
 use Prim.Native.Nat.{ℕ, zero, suc, ◌+◌, ◌*◌, ◌≤◌}

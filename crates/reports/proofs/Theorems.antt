@@ -1,5 +1,5 @@
--- What is proved of both reports: what is promised settles everything, nothing is written on a refusal, how long a report can be, document 01's whole
--- case and a ledger script byte for byte, that all decisions of a report agree, and how far its rounds can go. Each statement stands below its words, the
+-- What is proved of both reports: what is promised settles everything, nothing is written on a refusal, how long a report can be, the case that docs/SCOPE.md
+-- gives whole and a ledger script byte for byte, that all decisions of a report agree, and how far its rounds can go. Each statement stands below its words, the
 -- proofs are in the other files. Assumes nothing.
 use Prim.Native.Nat.{ℕ, ◌+◌, ◌*◌, ◌≤◌}
 use mathlib.Core.List.{List, ◌++◌}
@@ -90,7 +90,7 @@ ledger_room_never_short = ledger.ledger_room
 
 -- ---- examples, byte for byte
 
--- Document 01's whole case: the report of its input is its output.
+-- The case that docs/SCOPE.md gives whole: the report of its input is its output.
 pub whole_case : run_report_of Sixteen whole_input ≡ whole_output
 whole_case = case.whole_case
 
@@ -98,7 +98,7 @@ whole_case = case.whole_case
 pub ended_case : run_report_of Sixteen ended_input ≡ ended_output
 ended_case = case.ended_case
 
--- The report of a ledger script with P9 and P10 of document 01 in it.
+-- The report of a ledger script with both ledger examples of docs/SCOPE.md in it.
 pub example : ledger_report_of Sixteen script_input ≡ script_output
 example = script.example
 
@@ -120,7 +120,7 @@ report_valid = decisions.report_valid
 pub report_bounded : (size : Size) (text : List ℕ) (i d : ℕ) → (run_after size text i).decision ≡ chosen d → (v : ℕ) × (w : ℕ) × Accepted (benches_of size) (start i v w) new_run (steps_of (read_text (benches_of size) text)) × (d ≤ v)
 report_bounded = decisions.report_bounded
 
--- ---- W8: the rounds of a run text's report
+-- ---- the rounds of a run text's report: docs/PAUSE.md
 
 -- The round that is printed of a bench is the round that the bench is in.
 pub printed_round_lem : (size : Size) (text : List ℕ) (b : ℕ) → printed_round (run_after size text) b ≡ (run_after size text b).round
@@ -135,7 +135,7 @@ report_two_more = rounds.report_two_more
 pub report_three : (size : Size) (text : List ℕ) → NoFailDone (benches_of size) new_run (steps_of (read_text (benches_of size) text)) → (b : ℕ) → printed_round (run_after size text) b ≤ 3
 report_three = rounds.report_three
 
--- ---- W9: how far rounds come
+-- ---- how far rounds come: docs/ROUNDS.md
 
 -- No text has a round above 2 n + 1 printed: none above 33 of a class of 16.
 pub report_rounds_end : (size : Size) (text : List ℕ) (b : ℕ) → printed_round (run_after size text) b ≤ 2 * benches_of size + 1

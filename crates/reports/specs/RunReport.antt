@@ -1,4 +1,4 @@
--- The report of a run text, as document 01 says under 'Run text': how lines are answered, and what is printed of the answers and of the run.
+-- The report of a run text, as docs/SCOPE.md says: how lines are answered, and what is printed of the answers and of the run.
 -- This file is to be believed. The run is that of `published`, for as many benches and rounds as its size says.
 use Rattle.std.specs.Prelude.{ℕ, zero, suc, ◌+◌, cond, List, [], ◌∷◌, ◌++◌, length, Option, Some, None}
 use Rattle.published.specs.Rounds.{Message, Round, Out, State, fresh, running, decided, abstained, left, failed, Decision, none, chosen, Bench, Run, new_run, is_fresh, Step, Answer, refuse, step, run_from}

@@ -1,3 +1,3 @@
--- Lemmas of this crate.
+-- Laws of this crate: stores, and a number's digits.
 pub mod Cuts
 pub mod Digits

@@ -52,19 +52,17 @@ module _ (l : List ℕ) (n m : ℕ) where
 
 -- the lines of the first i answers have n bytes
 pub record Measured (l : List ℕ) (i n : ℕ) : Type 0 where
-  pub upto : i ≤ length l
   pub short : n ≤ 34 * i
   pub total : length (answer_lines 1 l) ≡ n + length (answer_lines (i + 1) (drop i l))
 
 module _ (l : List ℕ) where
   pub measured_none : Measured l 0 0
-  measured_none = record { upto = omega arith; short = omega arith; total = omega arith }
+  measured_none = record { short = omega arith; total = omega arith }
 
   module _ (i n : ℕ) (p : Measured l i n) where
     pub measured_more : i < length l → (d : ℕ) → d ≡ length (answer_line (i + 1) (get_or l i 0)) → Measured l (i + 1) (n + d)
     measured_more h d e =
         record {
-          upto = omega arith;
           short = omega (arith, p.short, line_short (i + 1) (get_or l i 0) d e);
           total = p.total ∙ rw (lines_more l (i + 1) i h, length-append, ← add-one (i + 1)) (omega arith);
         }
@@ -74,24 +72,23 @@ module _ (l : List ℕ) where
 
 -- ---- stored line by line
 
--- the lines of the first i answers are stored in the room, up to a place; room₀ held what was there before
-pub record Storing (room₀ l room : List ℕ) (at i : ℕ) : Type 0 where
-  pub upto : i ≤ length l
-  pub left : Left room₀ 0 (answer_lines 1 l) room at (answer_lines (i + 1) (drop i l))
+-- the lines from the answer i on are left to be stored; room₀ held what was there before
+abbrev pub Storing : List ℕ → List ℕ → List ℕ → ℕ → ℕ → Type 0
+Storing room₀ l room at i = Left room₀ 0 (answer_lines 1 l) room at (answer_lines (i + 1) (drop i l))
 
 module _ (room₀ l : List ℕ) where
   pub storing_none : Storing room₀ l room₀ 0 0
-  storing_none = record { upto = omega arith; left = left_start room₀ 0 (answer_lines 1 l) }
+  storing_none = left_start room₀ 0 (answer_lines 1 l)
 
   module _ (room : List ℕ) (at i : ℕ) (p : Storing room₀ l room at i) where
     more : i < length l → Left room₀ 0 (answer_lines 1 l) room at (answer_line (i + 1) (get_or l i 0) ++ answer_lines (i + 1 + 1) (drop (i + 1) l))
-    more h = rw (lines_more l (i + 1) i h, ← add-one (i + 1)) at p.left
+    more h = rw (lines_more l (i + 1) i h, ← add-one (i + 1)) at p
 
     pub storing_room : i < length l → length (answer_lines 1 l) ≤ length room₀ → at + length (answer_line (i + 1) (get_or l i 0)) ≤ length room
     storing_room h r = left_room (answer_line (i + 1) (get_or l i 0)) (answer_lines (i + 1 + 1) (drop (i + 1) l)) (more h) (omega arith)
 
     pub storing_more : i < length l → (room' : List ℕ) (next : ℕ) → Stored room at (answer_line (i + 1) (get_or l i 0)) next room' → Storing room₀ l room' next (i + 1)
-    storing_more h room' next s = record { upto = omega arith; left = left_step (answer_lines (i + 1 + 1) (drop (i + 1) l)) (more h) s }
+    storing_more h room' next s = left_step (answer_lines (i + 1 + 1) (drop (i + 1) l)) (more h) s
 
     pub storing_all : length l ≤ i → Stored room₀ 0 (answer_lines 1 l) at room
-    storing_all h = left_end (rw (lines_none l (i + 1) i h) at p.left)
+    storing_all h = left_end (rw (lines_none l (i + 1) i h) at p)

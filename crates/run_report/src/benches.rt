@@ -1,5 +1,5 @@
 // One line for each bench that is not fresh, in rising number: state, last round sent or 0, decided value or `none`.
-ghost use Rattle.std.specs.Prelude.{◌+◌, ◌*◌, ◌≤◌, length};
+ghost use Rattle.std.specs.Prelude.{◌≡◌, ◌+◌, ◌*◌, ◌≤◌, length};
 ghost use Rattle.spelling.specs.Stored.{Stored, fitting};
 ghost use Rattle.kinds.specs.Sizes.{benches_of};
 ghost use Rattle.tables.specs.Runs.{state_of};
@@ -8,8 +8,8 @@ ghost use Rattle.reports.specs.RunReport.{state_text, value_text};
 ghost use Rattle.run_report.specs.Parts.{row_line, row_lines};
 
 use bench::{ABSTAINED, DECIDED, FRESH, LEFT, RUNNING};
-use kinds::{BenchNo, Size};
-use reads::{Decision, decision_of, sent_of, state_of};
+use kinds::{BenchNo, Size, SlotNo};
+use reads::{decision_of, sent_of, state_of};
 use room::bytes::put_bytes;
 use room::decimal::{put_field, put_number};
 use sets::benches_of;
@@ -40,31 +40,33 @@ fn store_bench(room: &mut [u8], at: usize, benches: &Benches, bench: BenchNo) ->
     let decision = decision_of(benches, bench);
     let a = put_field(room, at, b"bench=", bench.0);
     let b = put_bytes(room, a, b" state=");
-    let c = put_state_name(room, b, state);
+    let c = put_bytes(room, b, state_name(state));
     let d = put_field(room, c, b" round=", sent);
     let e = put_bytes(room, d, b" value=");
     let f = put_value(room, e, decision);
     put_bytes(room, f, b"\n")
 }
 
-fn put_state_name(room: &mut [u8], at: usize, state: u32) -> usize
-    ensures { Stored room.old at (fitting room.old at (state_text (state_of state))) result room.new }
+#[tactic(auto, unfolding(tables::specs::Runs::state_of, reports::specs::RunReport::state_text), using(crate::proofs::BenchLines::above_failed))]
+fn state_name(state: u32) -> &'static [u8]
+    ensures { result.now ≡ state_text (state_of state) }
 {
     match state {
-        FRESH => put_bytes(room, at, b"fresh"),
-        RUNNING => put_bytes(room, at, b"running"),
-        DECIDED => put_bytes(room, at, b"decided"),
-        ABSTAINED => put_bytes(room, at, b"abstained"),
-        LEFT => put_bytes(room, at, b"left"),
-        _ => put_bytes(room, at, b"failed"),
+        FRESH => b"fresh",
+        RUNNING => b"running",
+        DECIDED => b"decided",
+        ABSTAINED => b"abstained",
+        LEFT => b"left",
+        _ => b"failed",
     }
 }
 
-fn put_value(room: &mut [u8], at: usize, decision: Decision) -> usize
+#[tactic(auto, unfolding(reads::specs::Decisions::decision_is, reports::specs::RunReport::value_text))]
+fn put_value(room: &mut [u8], at: usize, decision: Option<SlotNo>) -> usize
     ensures { Stored room.old at (fitting room.old at (value_text (decision_is decision))) result room.new }
 {
     match decision {
-        Decision::None => put_bytes(room, at, b"none"),
-        Decision::Chosen(value) => put_number(room, at, value.0),
+        None => put_bytes(room, at, b"none"),
+        Some(value) => put_number(room, at, value.0),
     }
 }

@@ -1,27 +1,28 @@
 -- What writing answers: how long a step is, where its line ends, and the three answers. Assumes nothing.
 use Prim.Native.Nat.{ℕ, zero, suc, ◌+◌, ◌*◌, ◌/◌, ◌%◌, ◌≤◌}
 use native.Mathlib.Omega.{arith}
-use mathlib.Core.Bool.{Bool, true, false, not}
+use mathlib.Core.Bool.{Bool, true, false}
 use mathlib.Core.List.{List, [], ◌∷◌, ◌++◌}
 use mathlib.Core.Logic.{⊎_elim}
 use mathlib.Core.Path.{◌≡◌, refl, sym, ap, ◌∙◌}
 use lib.Dec.{leb}
 use lib.ListN.{length, set, length-append}
-use borrow.Author.Tests.{not-true, not-false}
-use Rattle.common.specs.Checks.{judge}
+use borrow.Author.Tests.{leb-true}
+use Rattle.std.specs.Prelude.{Result, Ok, Err}
+use Rattle.kinds.specs.declared.Refusal.{Refusal}
+use Rattle.kinds.specs.declared.Refusal.TheVariants.{NotWritable, ShortRoom}
 use Rattle.kinds.specs.declared.BenchNo.{BenchNo}
 use Rattle.kinds.specs.declared.SlotNo.{SlotNo}
 use Rattle.kinds.specs.declared.Step.{Step}
 use Rattle.kinds.specs.declared.Step.TheVariants.{Start, Abstain, Leave, Fail, Turn, Arrive, Notice}
-use Rattle.spelling.specs.declared.Written.TheVariants.{Bytes, Refused}
 use Rattle.spelling.specs.Numbers.{ascii, digits}
 use Rattle.spelling.specs.Spelling.{members, world_text, step_text, is_writable}
-use Rattle.spelling.specs.Text.{line_text, written_of, number_for, write_line_of, room_after}
+use Rattle.spelling.specs.Text.{line_text, write_line_of, room_after}
 use Rattle.spelling.specs.Stored.{Stored, fits}
 use Rattle.spelling.proofs.Decimals.{digits_length}
 use Rattle.spelling.proofs.Members.{members_odd, members_even, members_nil}
 use Rattle.spelling.proofs.WorldTrip.{parity}
-use Rattle.spelling.proofs.Stores.{stored_one, stored_then, room_is}
+use Rattle.spelling.proofs.Stores.{stored_one, stored_then}
 
 -- ---- how long a step is
 
@@ -95,29 +96,29 @@ with_end s p = stored_then p (stored_one _ _ 10)
 
 -- ---- the three answers
 
-module _ (limit : ℕ) (s : Step) (room : List ℕ) (at : ℕ) {t : Bool} (e : t ≡ is_writable limit s) where
-  pub not_writable : not t ≡ true → (Refused 21 ≡ write_line_of limit s room at) × (room ≡ room_after limit s room at)
-  unfolding write_line_of room_after written_of number_for judge
-  not_writable h = let w : is_writable limit s ≡ false = sym e ∙ not-true t h in (rw w refl, rw w refl)
+module _ (limit : ℕ) (s : Step) (room : List ℕ) (at : ℕ) where
+  abbrev Answered : Result ℕ Refusal → List ℕ → Type 0
+  Answered answer room' = (answer ≡ write_line_of limit s room at) × (room' ≡ room_after limit s room at)
 
-  module _ (h : not t ≡ false) {n : ℕ} (len : n ≡ length (step_text s)) {r : Bool} (has : r ≡ leb (at + (n + 1)) (length room)) where
-    writable : is_writable limit s ≡ true
-    writable = sym e ∙ not-false t h
+  pub not_writable : is_writable limit s ≡ false → Answered (Err NotWritable) room
+  unfolding write_line_of room_after
+  not_writable w = (rw w refl, rw w refl)
 
+  module _ (w : is_writable limit s ≡ true) {n : ℕ} (len : n ≡ length (step_text s)) {r : Bool} (has : r ≡ leb (at + (n + 1)) (length room)) where
     fitting : fits room at (line_text s) ≡ r
     unfolding fits
     fitting = let g : length (line_text s) ≡ n + 1 = line_length_lem s ∙ ap (λ (k : ℕ). k + 1) (sym len) in rw g (sym has)
 
-    pub no_room : not r ≡ true → (Refused 22 ≡ write_line_of limit s room at) × (room ≡ room_after limit s room at)
-    unfolding write_line_of room_after written_of number_for judge
-    no_room q = let f : fits room at (line_text s) ≡ false = fitting ∙ not-true r q in (rw (writable, f) refl, rw (writable, f) refl)
+    pub no_room : r ≡ false → Answered (Err ShortRoom) room
+    unfolding write_line_of room_after
+    no_room q = let f : fits room at (line_text s) ≡ false = fitting ∙ q in (rw (w, f) refl, rw (w, f) refl)
 
-    pub has_room : not r ≡ false → at + (length (step_text s) + 1) ≤ length room
-    has_room q = rw (← len) (room_is has q)
+    pub has_room : r ≡ true → at + (length (step_text s) + 1) ≤ length room
+    has_room q = rw (← len) (leb-true (at + (n + 1)) (length room) (sym has ∙ q))
 
-    pub line_written : not r ≡ false → {end : ℕ} {l : List ℕ} → Stored room at (step_text s) end l → (Bytes (n + 1) ≡ write_line_of limit s room at) × (set l end 10 ≡ room_after limit s room at)
-    unfolding write_line_of room_after written_of number_for judge
+    pub line_written : r ≡ true → {end : ℕ} {l : List ℕ} → Stored room at (step_text s) end l → Answered (Ok (n + 1)) (set l end 10)
+    unfolding write_line_of room_after
     line_written q p =
-        let f : fits room at (line_text s) ≡ true = fitting ∙ not-false r q in
+        let f : fits room at (line_text s) ≡ true = fitting ∙ q in
         let g : n + 1 ≡ length (line_text s) = ap (λ (k : ℕ). k + 1) len ∙ sym (line_length_lem s) in
-        (rw (writable, f) (ap Bytes g), rw (writable, f) (with_end s p).held)
+        (rw (w, f) (ap Ok g), rw (w, f) (with_end s p).held)

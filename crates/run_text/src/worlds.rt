@@ -1,72 +1,51 @@
 // How a world is spelled: read by world_at, stored by store_world, measured by world_length. Nothing else knows it.
-ghost use Rattle.std.specs.Prelude.{◌≡◌, ◌++◌, ◌+◌, ◌≤◌, ◌<◌, length};
+ghost use Rattle.std.specs.Prelude.{◌≡◌, ◌++◌, ◌+◌, ◌≤◌, length};
+ghost use Rattle.kinds.specs.Sizes.{benches_of};
 ghost use Rattle.spelling.specs.Numbers.{digits};
 ghost use Rattle.spelling.specs.Spelling.{world_text, is_world};
 ghost use Rattle.spelling.specs.Stored.{Stored};
 ghost use Rattle.spelling.specs.Storing.{sep_at};
-ghost use Rattle.spelling.specs.Reading.{bit_of, member_at, world_at};
+ghost use Rattle.spelling.specs.Reading.{member_at, world_at};
 
+use kinds::Size;
 use room::decimal;
 use spelling::Found;
 use text::{bytes, numbers};
 
-// A member of a world at a place: a bench above last, up to limit.
-fn member_at(text: &[u8], at: usize, last: u32, limit: u32) -> Found
-    ensures { result ≡ member_at limit text.now at last }
+// A member of a world at a place: a bench above `last`.
+fn member_at(text: &[u8], at: usize, last: u32, size: Size) -> Found<u32>
+    ensures { result ≡ member_at (benches_of size) text.now at last }
 {
-    let Found::Got(b, next) = numbers::number_at(text, at) else {
-        return Found::Nothing;
-    };
-    if b <= last {
-        return Found::Nothing;
+    let (bench, next) = numbers::number_at(text, at)?;
+    if last < bench && bench <= sets::benches_of(size) {
+        Some((bench, next))
+    } else {
+        None
     }
-    if limit < b {
-        return Found::Nothing;
-    }
-    Found::Got(b, next)
 }
 
-// The bit of a bench in a world.
-fn bit_of(bench: u32) -> u32
-    requires { (0 < bench) × (bench ≤ 32) }
-    ensures { result ≡ bit_of bench }
+// The world at a place: benches, strictly rising, joined by commas, at least one.
+pub(crate) fn world_at(text: &[u8], from: usize, size: Size) -> Found<u32>
+    ensures { result ≡ world_at (benches_of size) text.now from }
 {
-    1u32 << (bench - 1)
-}
-
-// The world at a place: benches up to limit, strictly rising, joined by commas, at least one.
-pub(crate) fn world_at(text: &[u8], from: usize, limit: u32) -> Found
-    requires { limit ≤ 32 }
-    ensures { result ≡ world_at limit text.now from }
-{
-    let mut at = from;
-    let mut last = 0u32;
-    let mut world = 0u32;
-    let mut room = limit;
-    while 0 < room {
-        let Found::Got(b, next) = member_at(text, at, last, limit) else {
-            return Found::Nothing;
+    let (mut world, mut last, mut at) = (0, 0, from);
+    loop {
+        let (bench, next) = member_at(text, at, last, size)?;
+        world += sets::only(bench as usize - 1);
+        let Some(further) = bytes::behind(text, next, b",") else {
+            return Some((world, next));
         };
-        world = world + bit_of(b);
-        if bytes::byte_at(text, next) != b',' {
-            return Found::Got(world, next);
-        }
-        at = next + 1;
-        last = b;
-        room -= 1;
+        last = bench;
+        at = further;
     }
-    Found::Nothing
 }
 
-// Whether a world is not empty and names no bench above limit.
-pub(crate) fn is_world(world: u32, limit: u32) -> bool
-    requires { limit ≤ 32 }
-    ensures { result ≡ is_world limit world }
+// Whether a world is not empty and names only benches that there are.
+#[tactic(auto, unfolding(spelling::specs::Spelling::is_world))]
+pub(crate) fn is_world(world: u32, size: Size) -> bool
+    ensures { result ≡ is_world (benches_of size) world }
 {
-    if world == 0 {
-        return false;
-    }
-    (world as u64) < 1u64 << limit
+    world != 0 && sets::fits(world, size)
 }
 
 // How many bytes a member takes behind those so far: a comma, unless it is the first, and the bench.

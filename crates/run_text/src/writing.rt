@@ -1,5 +1,6 @@
 // A step's line written. Its length is known before the first byte is stored, so that a refusal stores nothing.
-ghost use Rattle.std.specs.Prelude.{◌≡◌, ◌&&◌, ◌+◌, ◌≤◌, length};
+ghost use Rattle.std.specs.Prelude.{◌≡◌, ◌+◌, ◌≤◌, length};
+ghost use Rattle.kinds.specs.Sizes.{benches_of};
 ghost use Rattle.spelling.specs.Numbers.{digits};
 ghost use Rattle.spelling.specs.Spelling.{step_text, is_small, is_writable};
 ghost use Rattle.spelling.specs.Stored.{Stored};
@@ -7,39 +8,32 @@ ghost use Rattle.spelling.specs.Storing.{sender_text, start_text};
 ghost use Rattle.spelling.specs.Text.{write_line_of, room_after};
 
 use crate::worlds;
-use kinds::Step;
+use kinds::{Refusal, Size, Step};
 use room::{bytes, decimal};
-use spelling::{Line, Written};
+use spelling::Line;
 
-// Whether neither of two numbers is above 99,999.
-fn both_small(a: u32, b: u32) -> bool
-    ensures { result ≡ (is_small a && is_small b) }
+// Whether a number is at most 99,999.
+fn is_small(number: u32) -> bool
+    ensures { result ≡ is_small number }
 {
-    if 100000 <= a {
-        return false;
-    }
-    b < 100000
+    number < 100000
 }
 
-// Whether a step can be written, where worlds name benches up to limit.
-fn is_writable(step: Step, limit: u32) -> bool
-    requires { limit ≤ 32 }
-    ensures { result ≡ is_writable limit step }
+// Whether a step can be written.
+#[tactic(auto, unfolding(spelling::specs::Spelling::is_writable))]
+fn is_writable(step: Step, size: Size) -> bool
+    ensures { result ≡ is_writable (benches_of size) step }
 {
     match step {
         Step::Start(bench, value, world) => {
-            if both_small(bench.0, value.0) {
-                worlds::is_world(world, limit)
-            } else {
-                false
-            }
+            is_small(bench.0) && is_small(value.0) && worlds::is_world(world, size)
         }
-        Step::Abstain(b) => b.0 < 100000,
-        Step::Leave(b) => b.0 < 100000,
-        Step::Fail(b) => b.0 < 100000,
-        Step::Turn(b) => b.0 < 100000,
-        Step::Arrive(bench, from) => both_small(bench.0, from.0),
-        Step::Notice(bench, from) => both_small(bench.0, from.0),
+        Step::Abstain(bench) => is_small(bench.0),
+        Step::Leave(bench) => is_small(bench.0),
+        Step::Fail(bench) => is_small(bench.0),
+        Step::Turn(bench) => is_small(bench.0),
+        Step::Arrive(bench, from) => is_small(bench.0) && is_small(from.0),
+        Step::Notice(bench, from) => is_small(bench.0) && is_small(from.0),
     }
 }
 
@@ -103,21 +97,19 @@ fn store_step(room: &mut [u8], at: usize, step: Step) -> usize
     }
 }
 
-// Writes a step's line from a place on: refusal 21, then 22, else how many bytes were written.
-pub(crate) fn write_upto(line: Line, room: &mut [u8], at: usize, limit: u32) -> Written
-    requires { limit ≤ 32 }
-    ensures { (result ≡ write_line_of limit line room.old at) × (room.new ≡ room_after limit line room.old at) }
+// Writes a line from a place on, byte 10 at its end, and answers how many bytes it has.
+pub(crate) fn write_line(line: Line, room: &mut [u8], at: usize, size: Size) -> Result<usize, Refusal>
+    ensures answer { result ≡ write_line_of (benches_of size) line room.old at }
+    ensures held { room.new ≡ room_after (benches_of size) line room.old at }
 {
-    let writable = is_writable(line, limit);
-    let count = step_length(line) + 1;
-    let fits = bytes::has_room(room, at, count);
-    if !writable {
-        return Written::Refused(21);
+    if !is_writable(line, size) {
+        return Err(Refusal::NotWritable);
     }
-    if !fits {
-        return Written::Refused(22);
+    let count = step_length(line) + 1;
+    if !bytes::has_room(room, at, count) {
+        return Err(Refusal::ShortRoom);
     }
     let end = store_step(room, at, line);
-    room[end] = 10;
-    Written::Bytes(count)
+    room[end] = b'\n';
+    Ok(count)
 }

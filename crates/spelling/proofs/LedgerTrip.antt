@@ -2,13 +2,13 @@
 -- spelled there. Assumes nothing.
 use Prim.Native.Nat.{ℕ, ◌+◌, ◌≤◌, ◌<◌}
 use native.Mathlib.Omega.{arith}
-use mathlib.Core.Bool.{true, cond}
+use mathlib.Core.Bool.{true}
 use mathlib.Core.List.{List, ◌∷◌, ◌++◌, append_assoc}
 use mathlib.Core.Path.{◌≡◌, refl, ap, ◌∙◌}
 use lib.ListN.{length, drop, length-append}
 use borrow.Author.Tests.{lt-ltb, ltb-true, leb-true}
 use Rattle.std.specs.Prelude.{Some, None}
-use Rattle.common.proofs.Tests.{both, split, clash}
+use Rattle.common.proofs.Tests.{both, split}
 use Rattle.kinds.specs.declared.BenchNo.{BenchNo}
 use Rattle.kinds.specs.declared.SlotNo.{SlotNo}
 use Rattle.spelling.specs.declared.LedgerStep.{LedgerStep}
@@ -18,14 +18,14 @@ use Rattle.spelling.specs.declared.LedgerVerb.TheVariants as verb
 use Rattle.spelling.specs.Numbers.{ascii, digits}
 use Rattle.spelling.specs.Spelling.{is_small}
 use Rattle.spelling.specs.LedgerSpelling.{ledger_step_text, most_tag, is_tag, is_scriptable}
-use Rattle.spelling.specs.Fields.{Found, is_prefix, digit_at, number_upto, number_at, field_at}
-use Rattle.spelling.specs.LedgerReading.{as_tag, tag_at, tag_field_at, ledger_key_of, ledger_verb_at, slot_at, sweep_at, ledger_rest_at, ledger_step_at}
+use Rattle.spelling.specs.Fields.{behind, Found, is_prefix, digit_at, number_upto, number_at, field_at}
+use Rattle.spelling.specs.LedgerReading.{as_tag, tag_at, tag_field_at, ledger_key_of, ledger_verbs, ledger_verb_at, slot_at, sweep_at, ledger_rest_at, ledger_step_at}
 use Rattle.spelling.proofs.Places.{past, Spans, spans_then}
-use Rattle.spelling.proofs.Keys.{same_found, prefix_own, key_spans, tried_sound, none_found}
+use Rattle.spelling.proofs.Keys.{same_found, named_sound, none_found, behind_own, behind_spans}
 use Rattle.spelling.proofs.Decimals.{digits_length}
 use Rattle.spelling.proofs.NumberTrip.{upto_reads, upto_sound, number_reads, number_sound}
 use Rattle.spelling.proofs.LineEnds.{Ends, ends_byte}
-use Rattle.spelling.proofs.FieldTrip.{both_true, space_stops, field_reads, field_sound, found_first, tested_first}
+use Rattle.spelling.proofs.FieldTrip.{both_true, space_stops, field_reads, field_sound, found_first}
 
 -- ---- tags
 
@@ -52,7 +52,7 @@ tag_sound text at t next got = go (number_upto 9 text at) refl got
 -- ---- what is written is read
 
 verb_reads : (v : LedgerVerb) (text : List ℕ) (at : ℕ) (rest : List ℕ) → drop at text ≡ ledger_key_of v ++ rest → ledger_verb_at text at ≡ Some (v, at + length (ledger_key_of v))
-unfolding ledger_verb_at ledger_key_of is_prefix
+unfolding ledger_verb_at ledger_key_of behind is_prefix
 verb_reads verb.Join text at rest e = rw e refl
 verb_reads verb.Sweep text at rest e = rw e refl
 verb_reads verb.Close text at rest e = rw e refl
@@ -61,12 +61,12 @@ verb_reads verb.HandOut text at rest e = rw e refl
 
 -- the first number of a step, and what follows it
 module _ (v : LedgerVerb) (text : List ℕ) (at n : ℕ) where
-  abbrev behind : ℕ
-  behind = at + 5 + length (ledger_key_of v) + length (digits n)
+  abbrev after : ℕ
+  after = at + 5 + length (ledger_key_of v) + length (digits n)
 
   head_reads : (rest : List ℕ) → n < 100000 → drop at text ≡ ascii "step=" ++ (ledger_key_of v ++ (digits n ++ rest))
-      → 10 ≤ digit_at text behind → ledger_step_at text at ≡ ledger_rest_at text behind v n
-  unfolding ledger_step_at is_prefix
+      → 10 ≤ digit_at text after → ledger_step_at text at ≡ ledger_rest_at text after v n
+  unfolding ledger_step_at behind is_prefix
   head_reads rest h e stop =
       let e₅ : drop (at + 5) text ≡ ledger_key_of v ++ (digits n ++ rest) = past text at (ascii "step=") e in
       let r = number_reads n text (at + 5 + length (ledger_key_of v)) rest h (past text (at + 5) (ledger_key_of v) e₅) stop in
@@ -78,7 +78,7 @@ module _ (v : LedgerVerb) (text : List ℕ) (at n : ℕ) where
 
   one_reads : (rest : List ℕ) → is_small n ≡ true → Ends rest → drop at text ≡ one ++ rest → ledger_step_at text at ≡ ledger_rest_at text (at + length one) v n
   one_reads rest h end e =
-      let len : behind ≡ at + length one = omega (arith, length-append (ledger_key_of v) (digits n)) in
+      let len : after ≡ at + length one = omega (arith, length-append (ledger_key_of v) (digits n)) in
       let e' : drop at text ≡ ascii "step=" ++ (ledger_key_of v ++ (digits n ++ rest)) = e ∙ ap (λ (z : List ℕ). ascii "step=" ++ z) (append_assoc (ledger_key_of v) (digits n) rest) in
       let s = ends_byte text (at + length one) end (past text at one e) in
       head_reads rest (ltb-true n 100000 h) e' (rw len s.0) ∙ rw len refl
@@ -89,10 +89,10 @@ module _ (v : LedgerVerb) (text : List ℕ) (at n : ℕ) where
     two = ascii "step=" ++ (ledger_key_of v ++ (digits n ++ ((32 ∷ key) ++ digits m)))
 
     record Second (rest : List ℕ) : Type 0 where
-      first_read : ledger_step_at text at ≡ ledger_rest_at text behind v n
-      stands : drop behind text ≡ (32 ∷ key) ++ (digits m ++ rest)
-      stops : 10 ≤ digit_at text (behind + length (32 ∷ key) + length (digits m))
-      place : behind + length (32 ∷ key) + length (digits m) ≡ at + length two
+      first_read : ledger_step_at text at ≡ ledger_rest_at text after v n
+      stands : drop after text ≡ (32 ∷ key) ++ (digits m ++ rest)
+      stops : 10 ≤ digit_at text (after + length (32 ∷ key) + length (digits m))
+      place : after + length (32 ∷ key) + length (digits m) ≡ at + length two
 
     two_reads : (rest : List ℕ) → is_small n ≡ true → Ends rest → drop at text ≡ two ++ rest → Second rest
     two_reads rest h end e =
@@ -101,12 +101,12 @@ module _ (v : LedgerVerb) (text : List ℕ) (at n : ℕ) where
         e
         ∙ ap (λ (z : List ℕ). ascii "step=" ++ z) (append_assoc (ledger_key_of v) (digits n ++ (F ++ digits m)) rest
         ∙ ap (λ (z : List ℕ). ledger_key_of v ++ z) (append_assoc (digits n) (F ++ digits m) rest ∙ ap (λ (z : List ℕ). digits n ++ z) (append_assoc F (digits m) rest))) in
-        let e₁ : drop behind text ≡ F ++ (digits m ++ rest) = past text (at + 5 + length (ledger_key_of v)) (digits n) (past text (at + 5) (ledger_key_of v) (past text at (ascii "step=") e₀)) in
-        let len : behind + length F + length (digits m) ≡ at + length two =
+        let e₁ : drop after text ≡ F ++ (digits m ++ rest) = past text (at + 5 + length (ledger_key_of v)) (digits n) (past text (at + 5) (ledger_key_of v) (past text at (ascii "step=") e₀)) in
+        let len : after + length F + length (digits m) ≡ at + length two =
         omega (arith, length-append (ledger_key_of v) (digits n ++ (F ++ digits m)), length-append (digits n) (F ++ digits m), length-append F (digits m)) in
         let s = ends_byte text (at + length two) end (past text at two e) in
         record {
-          first_read = head_reads (F ++ (digits m ++ rest)) (ltb-true n 100000 h) e₀ (space_stops text behind e₁);
+          first_read = head_reads (F ++ (digits m ++ rest)) (ltb-true n 100000 h) e₀ (space_stops text after e₁);
           stands = e₁;
           stops = rw len s.0;
           place = len;
@@ -118,7 +118,7 @@ slot_reads : (v : LedgerVerb) (step : BenchNo → SlotNo → LedgerStep) (text :
 unfolding slot_at
 slot_reads v step text at s n rest same hs hn end e =
     let r = two_reads v text at s (ascii "slot=") n rest hs end e in
-    let k = behind v text at s in
+    let k = after v text at s in
     r.first_read ∙ same k ∙ rw (field_reads (ascii " slot=") text k n rest (ltb-true n 100000 hn) r.stands r.stops, r.place) refl
 
 sweep_reads : (text : List ℕ) (at s t : ℕ) (rest : List ℕ) → is_small s ≡ true → is_tag t ≡ true → Ends rest → drop at text ≡ two verb.Sweep text at s (ascii "tag=") t ++ rest
@@ -126,9 +126,8 @@ sweep_reads : (text : List ℕ) (at s t : ℕ) (rest : List ℕ) → is_small s 
 unfolding ledger_rest_at sweep_at tag_field_at
 sweep_reads text at s t rest hs ht end e =
     let r = two_reads verb.Sweep text at s (ascii "tag=") t rest hs end e in
-    let k = behind verb.Sweep text at s in
-    let key : is_prefix (ascii " tag=") (drop k text) ≡ true = rw r.stands (prefix_own (ascii " tag=") (digits t ++ rest)) in
-    r.first_read ∙ rw (key, tag_reads t text (k + 5) rest ht (past text k (ascii " tag=") r.stands) r.stops, r.place) refl
+    let k = after verb.Sweep text at s in
+    r.first_read ∙ rw (behind_own (ascii " tag=") text k (digits t ++ rest) r.stands, tag_reads t text (k + 5) rest ht (past text k (ascii " tag=") r.stands) r.stops, r.place) refl
 
 pub step_reads : (s : LedgerStep) (text : List ℕ) (at : ℕ) (rest : List ℕ) → is_scriptable s ≡ true → Ends rest → drop at text ≡ ledger_step_text s ++ rest
     → ledger_step_at text at ≡ Some (s, at + length (ledger_step_text s))
@@ -152,13 +151,6 @@ pub record StepIs (text : List ℕ) (at : ℕ) (s : LedgerStep) (end : ℕ) : Ty
   pub spans : Spans text at (ledger_step_text s) end
   pub scriptable : is_scriptable s ≡ true
 
-verb_sound : (text : List ℕ) (at : ℕ) (v : LedgerVerb) (next : ℕ) → ledger_verb_at text at ≡ Some (v, next) → Spans text at (ledger_key_of v) next
-unfolding ledger_verb_at
-verb_sound text at v next got =
-    tried_sound ledger_key_of text at verb.Sweep v next _ (λ g₁. tried_sound ledger_key_of text at verb.Close v next _
-    (λ g₂. tried_sound ledger_key_of text at verb.HandOut v next _
-    (λ g₃. tried_sound ledger_key_of text at verb.Join v next _ (λ g₄. tried_sound ledger_key_of text at verb.End v next _ (λ g₅. clash (cc)) g₄) g₃) g₂) g₁) got
-
 -- the first number n was read, up to `next`; what the rest makes of it
 module _ (text : List ℕ) (at n next : ℕ) (small : is_small n ≡ true) where
   here_is : (s t : LedgerStep) (end : ℕ) → ◌≡◌ {A = Found LedgerStep} (Some (s, next)) (Some (t, end)) → StepIs text at s next → StepIs text at t end
@@ -175,9 +167,10 @@ module _ (text : List ℕ) (at n next : ℕ) (small : is_small n ≡ true) where
 
   tag_field_sound : (t end : ℕ) → tag_field_at text next ≡ Some (t, end) → Spans text next (ascii " tag=" ++ digits t) end × (is_tag t ≡ true)
   unfolding tag_field_at
-  tag_field_sound t end got = split (is_prefix (ascii " tag=") (drop next text))
-      (λ e. let r = tag_sound text (next + 5) t end (rw e at got) in (spans_then (key_spans (ascii " tag=") text next e) r.0, r.1))
-      (λ e. none_found (rw e at got))
+  tag_field_sound t end got =
+      let p = found_first (behind (ascii " tag=") text next) _ got in
+      let r = tag_sound text p.0 t end p.2 in
+      (spans_then (behind_spans (ascii " tag=") text next p.1) r.0, r.1)
 
   sweep_sound : (t : LedgerStep) (end : ℕ) → sweep_at text next n ≡ Some (t, end)
       → ((m : ℕ) → is_tag m ≡ true → Spans text next (ascii " tag=" ++ digits m) end → StepIs text at (Sweep (record { 0 = n }) m) end) → StepIs text at t end
@@ -197,11 +190,11 @@ module _ (text : List ℕ) (at n next : ℕ) (small : is_small n ≡ true) where
   rest_sound verb.HandOut t end s e = here_is (HandOut n) t end e (record { spans = s; scriptable = small })
 
 pub step_sound : (text : List ℕ) (at : ℕ) (s : LedgerStep) (end : ℕ) → ledger_step_at text at ≡ Some (s, end) → StepIs text at s end
-unfolding ledger_step_at
+unfolding ledger_step_at ledger_verb_at
 step_sound text at s end got =
-    let p = found_first (cond (is_prefix (ascii "step=") (drop at text)) (ledger_verb_at text (at + 5)) None) _ got in
-    let h = tested_first (is_prefix (ascii "step=") (drop at text)) (ledger_verb_at text (at + 5)) p.1 in
+    let h = found_first (behind (ascii "step=") text at) _ got in
+    let p = found_first (ledger_verb_at text h.0) _ h.2 in
     let q = found_first (number_at text p.0.1) _ p.2 in
     let r = number_sound text p.0.1 q.0.0 q.0.1 q.1 in
     rest_sound text at q.0.0 q.0.1 (lt-ltb q.0.0 100000 r.small) p.0.0 s end
-    (spans_then (key_spans (ascii "step=") text at h.0) (spans_then (verb_sound text (at + 5) p.0.0 p.0.1 h.1) r.spans)) q.2
+    (spans_then (behind_spans (ascii "step=") text at h.1) (spans_then (named_sound ledger_key_of text h.0 ledger_verbs p.1) r.spans)) q.2

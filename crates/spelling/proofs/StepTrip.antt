@@ -1,13 +1,13 @@
 -- Steps there and back: where a step is spelled and the line ends behind it, `step_at` reads it, and what it reads is spelled there. Assumes nothing.
 use Prim.Native.Nat.{ℕ, ◌+◌, ◌≤◌, ◌<◌}
 use native.Mathlib.Omega.{arith}
-use mathlib.Core.Bool.{true, cond, ◌&&◌}
+use mathlib.Core.Bool.{true, ◌&&◌}
 use mathlib.Core.List.{List, ◌++◌, append_assoc}
 use mathlib.Core.Path.{◌≡◌, refl, ap, ◌∙◌}
 use lib.ListN.{length, drop, length-append}
 use borrow.Author.Tests.{lt-ltb, ltb-true}
-use Rattle.std.specs.Prelude.{Some, None}
-use Rattle.common.proofs.Tests.{both, clash}
+use Rattle.std.specs.Prelude.{Some}
+use Rattle.common.proofs.Tests.{both}
 use Rattle.kinds.specs.declared.BenchNo.{BenchNo}
 use Rattle.kinds.specs.declared.Step.{Step}
 use Rattle.kinds.specs.declared.Step.TheVariants.{Start, Abstain, Leave, Fail, Turn, Arrive, Notice}
@@ -15,13 +15,13 @@ use Rattle.spelling.specs.declared.Verb.{Verb}
 use Rattle.spelling.specs.declared.Verb.TheVariants as verb
 use Rattle.spelling.specs.Numbers.{ascii, digits}
 use Rattle.spelling.specs.Spelling.{world_text, step_text, is_small, is_world, is_writable}
-use Rattle.spelling.specs.Fields.{is_prefix, digit_at, number_at, field_at, Found}
-use Rattle.spelling.specs.Reading.{world_at, key_of, rare_verb_at, verb_at, start_at, from_at, rest_at, step_at}
+use Rattle.spelling.specs.Fields.{behind, is_prefix, digit_at, number_at, field_at, Found}
+use Rattle.spelling.specs.Reading.{world_at, key_of, verbs, verb_at, start_at, from_at, rest_at, step_at}
 use Rattle.spelling.proofs.Places.{past, Spans, spans_then}
-use Rattle.spelling.proofs.Keys.{same_found, key_spans, tried_sound}
+use Rattle.spelling.proofs.Keys.{same_found, named_sound, behind_spans}
 use Rattle.spelling.proofs.NumberTrip.{number_reads, number_sound}
 use Rattle.spelling.proofs.LineEnds.{Ends, ends_byte}
-use Rattle.spelling.proofs.FieldTrip.{both_true, space_stops, field_reads, field_sound, found_first, tested_first}
+use Rattle.spelling.proofs.FieldTrip.{both_true, space_stops, field_reads, field_sound, found_first}
 use Rattle.spelling.proofs.WorldTrip.{Stops, world_reads, world_sound}
 
 -- ---- what stands behind a number or a world
@@ -32,7 +32,7 @@ ends_stop text at n e = let b = ends_byte text at n e in record { no_digit = b.0
 -- ---- what is written is read
 
 verb_reads : (v : Verb) (text : List ℕ) (at : ℕ) (rest : List ℕ) → drop at text ≡ key_of v ++ rest → verb_at text at ≡ Some (v, at + length (key_of v))
-unfolding verb_at rare_verb_at key_of is_prefix
+unfolding verb_at key_of behind is_prefix
 verb_reads verb.Start text at rest e = rw e refl
 verb_reads verb.Abstain text at rest e = rw e refl
 verb_reads verb.Leave text at rest e = rw e refl
@@ -44,7 +44,7 @@ verb_reads verb.Notice text at rest e = rw e refl
 -- the bench of a step, and what follows it
 head_reads : (limit : ℕ) (v : Verb) (text : List ℕ) (at b : ℕ) (rest : List ℕ) → b < 100000 → drop at text ≡ ascii "step=" ++ (key_of v ++ (digits b ++ rest))
     → 10 ≤ digit_at text (at + 5 + length (key_of v) + length (digits b)) → step_at limit text at ≡ rest_at limit text (at + 5 + length (key_of v) + length (digits b)) v b
-unfolding step_at is_prefix
+unfolding step_at behind is_prefix
 head_reads limit v text at b rest h e stop =
     let e₅ : drop (at + 5) text ≡ key_of v ++ (digits b ++ rest) = past text at (ascii "step=") e in
     let n = number_reads b text (at + 5 + length (key_of v)) rest h (past text (at + 5) (key_of v) e₅) stop in
@@ -80,7 +80,7 @@ two_reads limit v step text at b f rest same hb hf n e =
 start_reads : (limit : ℕ) (text : List ℕ) (at b v w : ℕ) (rest : List ℕ) → limit ≤ 32 → is_small b ≡ true → is_small v ≡ true → is_world limit w ≡ true → Ends rest
     → drop at text ≡ (ascii "step=start bench=" ++ (digits b ++ (ascii " value=" ++ (digits v ++ (ascii " world=" ++ world_text w))))) ++ rest
     → step_at limit text at ≡ Some (Start (record { 0 = b }) (record { 0 = v }) w, at + length (ascii "step=start bench=" ++ (digits b ++ (ascii " value=" ++ (digits v ++ (ascii " world=" ++ world_text w))))))
-unfolding rest_at start_at key_of is_prefix
+unfolding rest_at start_at key_of behind is_prefix
 start_reads limit text at b v w rest lim hb hv hw n e =
     let S = ascii "step=start bench=" in
     let K = ascii " value=" in
@@ -126,17 +126,6 @@ pub record StepIs (limit : ℕ) (text : List ℕ) (at : ℕ) (s : Step) (end : �
   pub spans : Spans text at (step_text s) end
   pub writable : is_writable limit s ≡ true
 
-rare_sound : (text : List ℕ) (at : ℕ) (v : Verb) (next : ℕ) → rare_verb_at text at ≡ Some (v, next) → Spans text at (key_of v) next
-unfolding rare_verb_at
-rare_sound text at v next got =
-    tried_sound key_of text at verb.Start v next _ (λ g₁. tried_sound key_of text at verb.Abstain v next _ (λ g₂. tried_sound key_of text at verb.Leave v next _
-    (λ g₃. tried_sound key_of text at verb.Fail v next _ (λ g₄. clash (cc)) g₃) g₂) g₁) got
-
-verb_sound : (text : List ℕ) (at : ℕ) (v : Verb) (next : ℕ) → verb_at text at ≡ Some (v, next) → Spans text at (key_of v) next
-unfolding verb_at
-verb_sound text at v next got =
-    tried_sound key_of text at verb.Arrive v next _ (λ g₁. tried_sound key_of text at verb.Turn v next _ (λ g₂. tried_sound key_of text at verb.Notice v next _ (λ g₃. rare_sound text at v next g₃) g₂) g₁) got
-
 -- the bench b was read, up to `next`; what the rest makes of it
 module _ (limit : ℕ) (text : List ℕ) (at b next : ℕ) (small : is_small b ≡ true) where
   here_is : (s t : Step) (end : ℕ) → ◌≡◌ {A = Found Step} (Some (s, next)) (Some (t, end)) → StepIs limit text at s next → StepIs limit text at t end
@@ -158,11 +147,11 @@ module _ (limit : ℕ) (text : List ℕ) (at b next : ℕ) (small : is_small b �
   start_sound t end lim e k =
       let p = found_first (field_at (ascii " value=") text next) _ e in
       let r = field_sound (ascii " value=") text next p.0.0 p.0.1 p.1 in
-      let q = found_first (cond (is_prefix (ascii " world=") (drop p.0.1 text)) (world_at limit text (p.0.1 + 7)) None) _ p.2 in
-      let h = tested_first (is_prefix (ascii " world=") (drop p.0.1 text)) (world_at limit text (p.0.1 + 7)) q.1 in
-      let u = world_sound limit text (p.0.1 + 7) q.0.0 q.0.1 lim h.1 in
+      let h = found_first (behind (ascii " world=") text p.0.1) _ p.2 in
+      let q = found_first (world_at limit text h.0) _ h.2 in
+      let u = world_sound limit text h.0 q.0.0 q.0.1 lim q.1 in
       let same = same_found q.2 in
-      let s : Spans text p.0.1 (ascii " world=" ++ world_text q.0.0) q.0.1 = spans_then (key_spans (ascii " world=") text p.0.1 h.0) u.spans in
+      let s : Spans text p.0.1 (ascii " world=" ++ world_text q.0.0) q.0.1 = spans_then (behind_spans (ascii " world=") text p.0.1 h.1) u.spans in
       rw (← same.0) (k p.0.0 q.0.0 r.1 u.is_world_lem (rw same.1 at (spans_then r.0 s)))
 
   rest_sound : (v : Verb) (t : Step) (end : ℕ) → limit ≤ 32 → Spans text at (ascii "step=" ++ (key_of v ++ digits b)) next → rest_at limit text next v b ≡ Some (t, end) → StepIs limit text at t end
@@ -176,11 +165,11 @@ module _ (limit : ℕ) (text : List ℕ) (at b next : ℕ) (small : is_small b �
   rest_sound verb.Notice t end lim s e = from_sound Notice t end e (λ f hf r. record { spans = spans_then s r; writable = both_true small hf })
 
 pub step_sound : (limit : ℕ) (text : List ℕ) (at : ℕ) (s : Step) (end : ℕ) → limit ≤ 32 → step_at limit text at ≡ Some (s, end) → StepIs limit text at s end
-unfolding step_at
+unfolding step_at verb_at
 step_sound limit text at s end lim got =
-    let p = found_first (cond (is_prefix (ascii "step=") (drop at text)) (verb_at text (at + 5)) None) _ got in
-    let h = tested_first (is_prefix (ascii "step=") (drop at text)) (verb_at text (at + 5)) p.1 in
+    let h = found_first (behind (ascii "step=") text at) _ got in
+    let p = found_first (verb_at text h.0) _ h.2 in
     let q = found_first (number_at text p.0.1) _ p.2 in
     let r = number_sound text p.0.1 q.0.0 q.0.1 q.1 in
     rest_sound limit text at q.0.0 q.0.1 (lt-ltb q.0.0 100000 r.small) p.0.0 s end lim
-    (spans_then (key_spans (ascii "step=") text at h.0) (spans_then (verb_sound text (at + 5) p.0.0 p.0.1 h.1) r.spans)) q.2
+    (spans_then (behind_spans (ascii "step=") text at h.1) (spans_then (named_sound key_of text h.0 verbs p.1) r.spans)) q.2

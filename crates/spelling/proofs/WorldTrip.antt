@@ -91,7 +91,7 @@ tail_stops (suc k) b q text at rest e h =
 -- one member, with what stands behind it
 member_reads : (b limit : ℕ) (text : List ℕ) (at last : ℕ) (rest : List ℕ) → drop at text ≡ digits b ++ rest → 10 ≤ digit_at text (at + length (digits b)) → last < b → b ≤ limit → limit < 100000
     → member_at limit text at last ≡ Some (b, at + length (digits b))
-member_reads b limit text at last rest e stop lb bl lim = sym (member_got limit text at last refl b _ (number_reads b text at rest (omega arith) e stop) lb bl)
+member_reads b limit text at last rest e stop lb bl lim = sym (member_got limit text at last b _ (sym (number_reads b text at rest (omega arith) e stop)) lb bl)
 
 -- from behind a member on
 one_reads : (k b q f limit : ℕ) (text : List ℕ) (at last acc : ℕ) (rest : List ℕ) → ((acc' place : ℕ) → drop place text ≡ members k (b + 1) q (44 ∷ []) ++ rest → Stops text (place + length (members k (b + 1) q (44 ∷ [])))

@@ -1,5 +1,6 @@
 -- How keys, numbers, steps and lines are read, place by place, in the way of the code. This file need not be believed: see Reading and LedgerReading.
 use Rattle.std.specs.Prelude.{ℕ, zero, suc, ◌+◌, ◌-◌, ◌*◌, ◌^◌, Bool, true, false, cond, List, [], ◌∷◌, leb, ltb, eqb, length, get_or, take, drop, Option, Some, None, option_and_then}
+use Rattle.std.specs.Option.{option_or}
 
 -- ---- what is found
 
@@ -17,6 +18,10 @@ unfoldable pub is_prefix : List ℕ → List ℕ → Bool
 is_prefix [] l = true
 is_prefix (k ∷ ks) [] = false
 is_prefix (k ∷ ks) (c ∷ l) = cond (eqb c k) (is_prefix ks l) false
+
+-- the place behind a key that stands at a place
+unfoldable pub behind : List ℕ → List ℕ → ℕ → Option ℕ
+behind key text at = cond (is_prefix key (drop at text)) (Some (at + length key)) None
 
 -- ---- numbers
 
@@ -47,13 +52,22 @@ below width room = cond (leb room width) (10 ^ (width - room)) 0
 
 -- a key and a number behind it
 unfoldable pub field_at : List ℕ → List ℕ → ℕ → Found ℕ
-field_at key text at = cond (is_prefix key (drop at text)) (number_at text (at + length key)) None
+field_at key text at = do
+  next ← behind key text at
+  number_at text next
 
 -- ---- names
 
--- a name of which the key stands at a place, or else another
-abbrev pub tried : {V : Type 0} → (V → List ℕ) → List ℕ → ℕ → V → Found V → Found V
-tried key_of text at v other = cond (is_prefix (key_of v) (drop at text)) (Some (v, at + length (key_of v))) other
+-- a name of which the key stands at a place
+abbrev pub named : {V : Type 0} → (V → List ℕ) → List ℕ → ℕ → V → Found V
+named key_of text at v = do
+  next ← behind (key_of v) text at
+  Some (v, next)
+
+-- the first of many
+abbrev pub first_named : {V : Type 0} → (V → List ℕ) → List ℕ → ℕ → List V → Found V
+first_named key_of text at [] = None
+first_named key_of text at (v ∷ vs) = option_or (named key_of text at v) (first_named key_of text at vs)
 
 -- ---- lines
 

@@ -1,6 +1,6 @@
 -- How a ledger script is read, place by place, in the way of the code. This file need not be believed: by `reads_iff_spelled` and
 -- `reads_in_turn` of proofs/LedgerTheorems.antt a line reads to a step exactly when it is the step's spelling, and reading gives the lines of `lines_of`.
-use Rattle.std.specs.Prelude.{ℕ, ◌+◌, cond, List, map, drop, Option, Some, None}
+use Rattle.std.specs.Prelude.{ℕ, cond, List, [], ◌∷◌, map, Option, Some, None}
 use Rattle.kinds.specs.declared.BenchNo.{BenchNo}
 use Rattle.kinds.specs.declared.SlotNo.{SlotNo}
 use Rattle.spelling.specs.declared.LedgerStep.{LedgerStep}
@@ -10,7 +10,7 @@ use Rattle.spelling.specs.declared.LedgerVerb.TheVariants as verb
 use Rattle.spelling.specs.Numbers.{ascii}
 use Rattle.spelling.specs.Lines.{lines_of}
 use Rattle.spelling.specs.LedgerSpelling.{is_tag}
-use Rattle.spelling.specs.Fields.{Found, ◌>>=◌, is_prefix, number_upto, number_at, field_at, tried, whole, line_from}
+use Rattle.spelling.specs.Fields.{Found, ◌>>=◌, behind, number_upto, number_at, field_at, first_named, whole, line_from}
 
 -- ---- tags
 
@@ -25,7 +25,9 @@ unfoldable pub tag_at : List ℕ → ℕ → Found ℕ
 tag_at text at = as_tag (number_upto 9 text at)
 
 unfoldable pub tag_field_at : List ℕ → ℕ → Found ℕ
-tag_field_at text at = cond (is_prefix (ascii " tag=") (drop at text)) (tag_at text (at + 5)) None
+tag_field_at text at = do
+  next ← behind (ascii " tag=") text at
+  tag_at text next
 
 -- ---- steps
 
@@ -37,10 +39,11 @@ ledger_key_of verb.End = ascii "end sender="
 ledger_key_of verb.HandOut = ascii "handout room="
 
 -- first those that a script has most of
+abbrev pub ledger_verbs : List LedgerVerb
+ledger_verbs = verb.Sweep ∷ verb.Close ∷ verb.HandOut ∷ verb.Join ∷ verb.End ∷ []
+
 unfoldable pub ledger_verb_at : List ℕ → ℕ → Found LedgerVerb
-ledger_verb_at text at =
-    tried ledger_key_of text at verb.Sweep (tried ledger_key_of text at verb.Close (tried ledger_key_of text at verb.HandOut
-    (tried ledger_key_of text at verb.Join (tried ledger_key_of text at verb.End None))))
+ledger_verb_at text at = first_named ledger_key_of text at ledger_verbs
 
 -- what follows the sender of a step
 unfoldable pub slot_at : (BenchNo → SlotNo → LedgerStep) → List ℕ → ℕ → ℕ → Found LedgerStep
@@ -64,7 +67,8 @@ ledger_rest_at text at verb.HandOut n = Some (HandOut n, at)
 -- the step that is spelled from a place on
 unfoldable pub ledger_step_at : List ℕ → ℕ → Found LedgerStep
 ledger_step_at text at = do
-  (v, first) ← cond (is_prefix (ascii "step=") (drop at text)) (ledger_verb_at text (at + 5)) None
+  name ← behind (ascii "step=") text at
+  (v, first) ← ledger_verb_at text name
   (n, next) ← number_at text first
   ledger_rest_at text next v n
 

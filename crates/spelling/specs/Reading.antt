@@ -1,13 +1,13 @@
 -- How a text is read, place by place, in the way of the code. This file need not be believed: by `reads_iff_spelled` and `reads_in_turn`
 -- of proofs/Theorems.antt a line reads to a step exactly when it is the step's spelling, and reading gives the lines of `lines_of`.
-use Rattle.std.specs.Prelude.{ℕ, zero, suc, ◌+◌, ◌-◌, ◌^◌, cond, List, leb, ltb, eqb, get_or, drop, Option, Some, None}
+use Rattle.std.specs.Prelude.{ℕ, zero, suc, ◌+◌, ◌-◌, ◌^◌, cond, List, [], ◌∷◌, leb, ltb, eqb, get_or, Option, Some, None}
 use Rattle.kinds.specs.declared.BenchNo.{BenchNo}
 use Rattle.kinds.specs.declared.Step.{Step}
 use Rattle.kinds.specs.declared.Step.TheVariants.{Start, Abstain, Leave, Fail, Turn, Arrive, Notice}
 use Rattle.spelling.specs.declared.Verb.{Verb}
 use Rattle.spelling.specs.declared.Verb.TheVariants as verb
 use Rattle.spelling.specs.Numbers.{ascii}
-use Rattle.spelling.specs.Fields.{Found, ◌>>=◌, is_prefix, number_at, field_at, tried, whole, line_from}
+use Rattle.spelling.specs.Fields.{Found, ◌>>=◌, behind, number_at, field_at, first_named, whole, line_from}
 
 -- ---- worlds
 
@@ -41,17 +41,19 @@ key_of verb.Turn = ascii "turn bench="
 key_of verb.Arrive = ascii "arrive bench="
 key_of verb.Notice = ascii "notice bench="
 
-unfoldable pub rare_verb_at : List ℕ → ℕ → Found Verb
-rare_verb_at text at = tried key_of text at verb.Start (tried key_of text at verb.Abstain (tried key_of text at verb.Leave (tried key_of text at verb.Fail None)))
+-- first those that a run has most of
+abbrev pub verbs : List Verb
+verbs = verb.Arrive ∷ verb.Turn ∷ verb.Notice ∷ verb.Start ∷ verb.Abstain ∷ verb.Leave ∷ verb.Fail ∷ []
 
 unfoldable pub verb_at : List ℕ → ℕ → Found Verb
-verb_at text at = tried key_of text at verb.Arrive (tried key_of text at verb.Turn (tried key_of text at verb.Notice (rare_verb_at text at)))
+verb_at text at = first_named key_of text at verbs
 
 -- what follows the bench of a step
 unfoldable pub start_at : ℕ → List ℕ → ℕ → ℕ → Found Step
 start_at limit text at b = do
   (v, next) ← field_at (ascii " value=") text at
-  (w, end) ← cond (is_prefix (ascii " world=") (drop next text)) (world_at limit text (next + 7)) None
+  first ← behind (ascii " world=") text next
+  (w, end) ← world_at limit text first
   Some (Start (record { 0 = b }) (record { 0 = v }) w, end)
 
 unfoldable pub from_at : (BenchNo → BenchNo → Step) → List ℕ → ℕ → ℕ → Found Step
@@ -84,7 +86,8 @@ rest_at limit text at verb.Notice b = from_at Notice text at b
 -- the step that is spelled from a place on
 unfoldable pub step_at : ℕ → List ℕ → ℕ → Found Step
 step_at limit text at = do
-  (v, first) ← cond (is_prefix (ascii "step=") (drop at text)) (verb_at text (at + 5)) None
+  name ← behind (ascii "step=") text at
+  (v, first) ← verb_at text name
   (b, next) ← number_at text first
   rest_at limit text next v b
 

@@ -1,11 +1,7 @@
 -- `store_senders`: the lines of the senders so far are stored.
-use Prim.Native.Nat.{◌-◌}
-use Rattle.ledger_report.specs.Parts.{seen_rows}
+use Rattle.ledger.specs.Seen.{rows_by}
 use Rattle.ledger_report.proofs.SenderLines.{Listed}
 use Rattle.ledger_report.proofs.sender_lines.store_senders.Given as goal
 
-abbrev pub invariant-loop-k : goal.invariant-loop-k
-invariant-loop-k l = Listed l.many l.initial.room l.at (seen_rows l.cursor l.rows) l.room l.next l.k
-
-abbrev pub decreases-loop-k : goal.decreases-loop-k
-decreases-loop-k l = l.many - l.k
+abbrev pub invariant-loop-s : goal.invariant-loop-s
+invariant-loop-s l = Listed l.s-end l.initial.room l.at (rows_by l.ledger) l.room l.next l.s

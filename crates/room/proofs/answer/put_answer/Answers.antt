@@ -1,3 +1,4 @@
+-- `put_answer` meets its contract. With room what fits is both, without it nothing. Assumes nothing.
 use Rattle.spelling.proofs.Stores.{room_is, room_not, not_fitting, stored_fitting, stored_then}
 use Rattle.room.proofs.answer.put_answer.Goals as goal
 

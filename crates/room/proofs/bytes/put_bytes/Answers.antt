@@ -1,3 +1,4 @@
+-- `put_bytes` meets its contract. With room what fits is the bytes, without it nothing. Assumes nothing.
 use Rattle.spelling.proofs.Stores.{room_is, room_not, not_fitting, stored_fitting}
 use Rattle.room.proofs.bytes.put_bytes.Goals as goal
 

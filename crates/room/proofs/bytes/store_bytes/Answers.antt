@@ -1,3 +1,4 @@
+-- `store_bytes` meets its contract. A part of the room is written whole. Assumes nothing.
 use Rattle.std.proofs.Common.{arith}
 use Rattle.room.proofs.Cuts.{stored_part}
 use Rattle.room.proofs.bytes.store_bytes.Goals as goal

@@ -1,6 +1,9 @@
-use Rattle.std.proofs.Common.{◌∙◌, sym, arith}
+-- `has_room_for_field` meets its contract. Where the key and 10 bytes more are left there is room for both. Assumes nothing.
+use Rattle.std.proofs.Common.{◌∙◌, sym, arith, length-append}
 use borrow.Author.Tests.{le-leb}
-use Rattle.spelling.proofs.Decimals.{field_room, number_short}
+use Rattle.spelling.specs.Numbers.{digits}
+use Rattle.spelling.proofs.Decimals.{digits_length, number_short}
+use Rattle.spelling.proofs.Stores.{room_yes}
 use Rattle.room.proofs.decimal.has_room_for_field.Goals as goal
 
 pub overflow_add-key-else-has_room : goal.overflow_add-key-else-has_room
@@ -8,4 +11,6 @@ overflow_add-key-else-has_room c = omega (arith, number_short _ c.number_length.
 
 pub returns-then-has_room : goal.returns-then-has_room
 returns-then-has_room c =
-    c.if-has_room.true ∙ sym (le-leb _ _ (field_room c.args.key.now c.args.n _ c.has_room.ensures c.if-has_room.true))
+    let inside = room_yes c.has_room.ensures c.if-has_room.true in
+    c.if-has_room.true
+    ∙ sym (le-leb _ _ (omega (arith, length-append c.args.key.now (digits c.args.n), digits_length c.args.n)))

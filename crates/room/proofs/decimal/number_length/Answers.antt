@@ -1,3 +1,4 @@
+-- `number_length` meets its contract. A number has a digit at each power of ten that it reaches, and the last one. Assumes nothing.
 use Rattle.room.proofs.Digits.{digits_reached}
 use Rattle.room.proofs.decimal.number_length.Goals as goal
 

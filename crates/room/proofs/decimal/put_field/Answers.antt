@@ -1,3 +1,4 @@
+-- `put_field` meets its contract. With room what fits is the key and the number, without it nothing. Assumes nothing.
 use Rattle.spelling.proofs.Stores.{room_is, room_not, not_fitting, stored_fitting}
 use Rattle.room.proofs.decimal.put_field.Goals as goal
 

@@ -1,3 +1,4 @@
+-- `put_number` meets its contract. With room what fits is the number, without it nothing. Assumes nothing.
 use Rattle.spelling.proofs.Stores.{measured_out, measured_stored}
 use Rattle.room.proofs.decimal.put_number.Goals as goal
 

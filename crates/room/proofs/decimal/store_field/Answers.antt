@@ -1,3 +1,4 @@
+-- `store_field` meets its contract. Two stores in a row. Assumes nothing.
 use Rattle.spelling.proofs.Stores.{stored_then}
 use Rattle.room.proofs.decimal.store_field.Goals as goal
 

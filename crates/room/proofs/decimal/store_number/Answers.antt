@@ -1,3 +1,4 @@
+-- `store_number` meets its contract. What std writes of a number are its digits. Assumes nothing.
 use Rattle.std.proofs.Common.{arith}
 use Rattle.spelling.proofs.Decimals.{digits_small, digits_length}
 use Rattle.spelling.proofs.Stores.{stored_one}

@@ -1,3 +1,4 @@
+-- `put_refusal` meets its contract. With room what fits is the line, without it nothing. Assumes nothing.
 use Rattle.std.proofs.Common.{arith}
 use Rattle.spelling.proofs.Stores.{measured_out, measured_stored, stored_then}
 use Rattle.spelling.proofs.Decimals.{number_short}

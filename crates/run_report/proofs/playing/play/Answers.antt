@@ -6,14 +6,14 @@ use Rattle.run_report.proofs.playing.play.Goals as goal
 pub loop-line-init : goal.loop-line-init
 loop-line-init c = search playing_none
 
-pub returns-in_default : goal.returns-in_default
-returns-in_default c = playing_all _ _ _ _ _ _ _ _ c.loop-line.invariant (sym c.read_line.ensures ∙ c.in_default.is)
+pub returns : goal.returns
+returns c = playing_all _ _ _ _ _ _ _ _ c.loop-line.invariant (sym c.read_line.ensures ∙ c.in_default.is)
 
 pub bounds-answers-count : goal.bounds-answers-count
-bounds-answers-count c = playing_room _ _ _ _ _ _ _ _ c.loop-line.invariant _ _ (sym c.read_line.ensures ∙ c.in-Next.is)
+bounds-answers-count c = playing_room _ _ _ _ _ _ _ _ c.loop-line.invariant _ _ (sym c.read_line.ensures ∙ c.in-Some.is)
 
 pub loop-line-smaller : goal.loop-line-smaller
-loop-line-smaller c = playing_less _ _ _ _ _ _ _ _ c.loop-line.invariant _ _ (sym c.read_line.ensures ∙ c.in-Next.is)
+loop-line-smaller c = playing_less _ _ _ _ _ _ _ _ c.loop-line.invariant _ _ (sym c.read_line.ensures ∙ c.in-Some.is)
 
 pub loop-line-preserved : goal.loop-line-preserved
-loop-line-preserved c = playing_more _ _ _ _ _ _ _ _ c.loop-line.invariant _ _ (sym c.read_line.ensures ∙ c.in-Next.is) _ _ _ c.answer_to.ensures
+loop-line-preserved c = rw c.answer_number.ensures (playing_more _ _ _ _ _ _ _ _ c.loop-line.invariant _ _ (sym c.read_line.ensures ∙ c.in-Some.is) _ _ _ c.play_line.ensures)
