@@ -6,11 +6,11 @@
 use advancing::advance;
 use asking::{may_close, may_end, may_join, may_sweep, seat};
 use kinds::{BenchNo, PLACES, Refusal, Size, SlotNo};
+use order::write_tags;
 use senders::{all_closed, row_at};
+pub use senders::{LAST_SLOT, Row, Rows, SenderRow};
 use sets::only;
 use sweeps::{skipped, take_out};
-
-pub use senders::{LAST_SLOT, Row, Rows, SenderRow};
 
 mod advancing; // advancing.rt: the cursor
 mod asking; // asking.rt: the checks of each step
@@ -30,6 +30,24 @@ pub struct Cursor {
     pub next: SlotNo,
     pub held: u32,
     pub joined: u32,
+}
+
+impl Cursor {
+    ghost use Rattle.std.specs.Prelude.{◌≡◌};
+    ghost use Rattle.book.specs.Book.{new_book};
+    ghost use Rattle.ledger.specs.Promises.{cursor_of};
+
+    // Nothing is handed out before the slot at which it begins, nothing is held, and nobody has joined.
+    #[tactic(auto, unfolding(book::specs::Book::new_book, crate::specs::Promises::cursor_of))]
+    fn new(begin: SlotNo) -> Cursor
+        ensures { result ≡ cursor_of (new_book begin.0) 0 }
+    {
+        Cursor {
+            next: begin,
+            held: 0,
+            joined: 0,
+        }
+    }
 }
 
 // A sweep that is held. Its numbers are as narrow as they can be: a room of 8 KiB holds 1,024, and eight are compared at once.
@@ -64,11 +82,7 @@ impl Ledger {
     {
         let nobody = SenderRow::from(Row::Unknown);
         Ledger {
-            cursor: Cursor {
-                next: begin,
-                held: 0,
-                joined: 0,
-            },
+            cursor: Cursor::new(begin),
             rows: [nobody; PLACES],
             room: [Sweep {
                 sender: 0,
@@ -84,11 +98,7 @@ impl Ledger {
         ensures room { self.new.room ≡ self.old.room }
     {
         let nobody = SenderRow::from(Row::Unknown);
-        self.cursor = Cursor {
-            next: begin,
-            held: 0,
-            joined: 0,
-        };
+        self.cursor = Cursor::new(begin);
         self.rows = [nobody; PLACES];
     }
 
@@ -174,7 +184,7 @@ impl Ledger {
         self.give(out, size)
     }
 
-    // The hand-out of a slot that may go. Where nothing held is of the slot, nothing is written and the room stays.
+    // The hand-out of a slot that may go.
     fn give(&mut self, out: &mut [u32], size: Size) -> Result<usize, Refusal>
         requires { (self.old.cursor.next.0 ≤ last_out) × (may_go (benches_of size) self.old.cursor.next.0 (rows_by self.old) ≡ true) }
         ensures { Hands (benches_of size) self.old out.old result self.new out.new }
@@ -182,20 +192,10 @@ impl Ledger {
         let next = self.cursor.next;
         let held = self.held();
         let from = skipped(&self.room[..held], next);
-        if from == held {
-            advance(&mut self.cursor, held as u32);
-            return Ok(0);
-        }
-        let mut seats = [0u32; PLACES];
-        let top = order::counts(&self.room[from..held], next, &mut seats, size);
-        let total = order::sum_up(&mut seats, top);
-        if out.len() < total {
-            return Err(Refusal::ShortRoom);
-        }
-        order::place(&self.room[from..held], next, &mut seats, out, size);
+        let count = write_tags(&self.room[from..held], next, out, size)?;
         let left = take_out(&mut self.room, from, held, |sweep| sweep.is_of(next));
         advance(&mut self.cursor, left as u32);
-        Ok(total)
+        Ok(count)
     }
 
     // How many sweeps are held, by the cursor's count: no more than there is room for.

@@ -1,8 +1,9 @@
 // The sweeps of the room: the first of a slot, and a part of them taken out.
-ghost use Rattle.std.specs.Prelude.{◌≡◌, [], false, ◌≤◌, length, eqb, map};
+ghost use Rattle.std.specs.Prelude.{◌≡◌, [], false, ◌||◌, ◌≤◌, length};
+ghost use Rattle.std.specs.List.{fold, position_or_len};
 ghost use Rattle.book.specs.Book.{only};
-ghost use Rattle.ledger.specs.Seen.{sweep_is, held_in};
-ghost use Rattle.ledger.specs.Sweeps.{NoneOf, FirstOf, Gone, Tests, TakesOut};
+ghost use Rattle.ledger.specs.Seen.{held_in};
+ghost use Rattle.ledger.specs.Sweeps.{of_slot, Gone, Tests, TakesOut};
 
 use crate::Sweep;
 use kinds::SlotNo;
@@ -12,7 +13,7 @@ const BLOCK: usize = 8;
 
 impl Sweep {
     pub(crate) fn is_of(self, slot: SlotNo) -> bool
-        ensures { result ≡ eqb (sweep_is self).slot slot.0 }
+        ensures { result ≡ of_slot slot.0 self }
     {
         self.slot as u32 == slot.0
     }
@@ -20,18 +21,17 @@ impl Sweep {
 
 // The place of the first sweep of the slot, or how many there are: they are passed by blocks, then one by one.
 pub(crate) fn skipped(sweeps: &[Sweep], slot: SlotNo) -> usize
-    ensures { FirstOf slot.0 sweeps.now result }
+    ensures within { result ≤ length sweeps.now }
+    ensures first { result ≡ position_or_len (of_slot slot.0) sweeps.now }
 {
     let passed = passed_blocks(sweeps, slot);
-    match sweeps[passed..].iter().position(|sweep| sweep.is_of(slot)) {
-        Some(k) => passed + k,
-        None => sweeps.len(),
-    }
+    passed + passed_ones(&sweeps[passed..], slot)
 }
 
 // How many sweeps stand in the blocks before the first one that has a sweep of the slot.
 fn passed_blocks(sweeps: &[Sweep], slot: SlotNo) -> usize
-    ensures { (result ≤ length sweeps.now) × NoneOf slot.0 (held_in result sweeps.now) }
+    ensures within { result ≤ length sweeps.now }
+    ensures none { result ≤ position_or_len (of_slot slot.0) sweeps.now }
 {
     let mut passed = 0;
     for block in sweeps.chunks_exact(BLOCK) {
@@ -43,9 +43,16 @@ fn passed_blocks(sweeps: &[Sweep], slot: SlotNo) -> usize
     passed
 }
 
-// Whether a sweep is of the slot.
+// How many sweeps stand before the first one of the slot.
+fn passed_ones(sweeps: &[Sweep], slot: SlotNo) -> usize
+    ensures { result ≡ position_or_len (of_slot slot.0) sweeps.now }
+{
+    sweeps.iter().take_while(|sweep| !sweep.is_of(slot)).count()
+}
+
+// Whether a sweep is of the slot. Each is compared, whatever those before it are.
 fn any_of(block: &[Sweep], slot: SlotNo) -> bool
-    ensures { result ≡ false → NoneOf slot.0 (map sweep_is block.now) }
+    ensures { result ≡ fold (λ found sweep. found || of_slot slot.0 sweep) false block.now }
 {
     block
         .iter()

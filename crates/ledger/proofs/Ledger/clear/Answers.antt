@@ -14,4 +14,4 @@ pub returns-clause-begins : goal.returns-clause-begins
 unfolding book_of held_in new_book cursor_of row_is
 returns-clause-begins c =
     let nobody : c.from-nobody.result ≡ kept_of unknown = c.from-nobody.ensures in
-    rw nobody record { book_is = rw (rows_new (replicate places (kept_of unknown))); cursor_is = refl; rows_are = refl }
+    rw (c.new-self.ensures, nobody) record { book_is = rw (rows_new (replicate places (kept_of unknown))); cursor_is = refl; rows_are = refl }

@@ -1,0 +1,41 @@
+-- `ledger::Ledger::end` meets its contract: who is no sender is answered 1, and a sender's step goes by its checks.
+use Prim.Native.Nat.{◌<◌}
+use native.Mathlib.Omega.{arith}
+use mathlib.Core.Path.{◌≡◌, refl, ap, ◌∙◌}
+use mathlib.Core.Bool.{◌&&◌}
+use lib.ListN.{length}
+use lib.Dec.{eqb, leb}
+use Rattle.std.proofs.lemmas.Result.{err_from_is_err_and}
+use Rattle.senders.specs.Rows.{row_is}
+use Rattle.senders.specs.Kept.{kept_of}
+use Rattle.book.specs.Book.{checks, only}
+use Rattle.ledger.specs.Seen.{room_words, held_in, book_of}
+use Rattle.ledger.proofs.Told.{tells_refusal, no_sender, knows, end_done}
+use borrow.Author.Rules.{rules}
+use Rattle.ledger.proofs.Ledger.end.Goals as goal
+
+pub returns-in_err-i : goal.returns-in_err-i
+unfolding checks
+returns-in_err-i c =
+    let p = err_from_is_err_and c.from_residual.result c.from_residual.ensures.1 in
+    let e = c.in_err-i.ensures.err in
+    rw (p.1, p.2, e.1) (no_sender _ _ e.0 _ _ _ refl)
+
+pub returns-in_err-may_end : goal.returns-in_err-may_end
+unfolding book_of
+returns-in_err-may_end c =
+    let p = err_from_is_err_and c.from_residual-in_err-may_end.result c.from_residual-in_err-may_end.ensures.1 in
+    let s = c.in_ok-i.ensures.ok in
+    let x = c.args.self.now in
+    rw (p.1, p.2) (tells_refusal _ x _ _ (c.in_err-may_end.ensures _ (book_of x) _ s.0 (knows _ x _ _ s.0 s.1 (row_is c.row_at-row.result) c.row_at-row.ensures) refl))
+
+pub returns : goal.returns
+unfolding book_of only held_in
+returns c =
+    let s = c.in_ok-i.ensures.ok in
+    let x = c.args.self.now in
+    let there : c.in_ok-i.i < length x.rows = omega arith in
+    let whole : length x.room ≡ room_words = omega arith in
+    end_done _ x _ _ s.0 s.1 (row_is c.row_at-row.result) c.row_at-row.ensures there _ _ (c.from.ensures ∙ ap kept_of c.ended.ensures) whole _ c.held-held.ensures _ _
+    (c.take_out-left.ensures.taken (λ v. eqb v.sender c.args.sender.0 && leb c.args.slot.0 v.slot) (λ w t r. search rules) refl)
+    (c.in_ok-may_end.ensures _ (book_of x) _ s.0 (knows _ x _ _ s.0 s.1 (row_is c.row_at-row.result) c.row_at-row.ensures) refl)
