@@ -28,4 +28,4 @@ returns-in-HandOut c =
     let places = c.in-HandOut.places in
     let long : length c.args.tags.now ≡ room_words = c.told-tags in
     let few : c.min-places.result ≡ min places room_words = omega (arith, c.min-places.ensures) in
-    rw (c.in_ok-sender.ensures.ok_part, c.in-HandOut.is) (hand_out_plays c.args.size c.args.ledger.now c.args.tags.now places long c.min-places.result few c.hand_out.new.ledger c.hand_out.new.out c.hand_out.result c.map.result c.hand_out.ensures (mapped _ _ _ (λ k y p. search rules) c.map.ensures.cases))
+    rw (c.in_ok-sender.ensures.ok_part, c.in-HandOut.is) (hand_out_plays c.args.size c.args.ledger.now c.args.tags.now places long c.min-places.result few c.hand_out.new.self c.hand_out.new.out c.hand_out.result c.map.result c.hand_out.ensures (mapped _ _ _ (λ k y p. search rules) c.map.ensures.cases))
