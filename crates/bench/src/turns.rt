@@ -4,7 +4,7 @@ ghost use Rattle.std.specs.Prelude.{◌≡◌, ◌<◌};
 ghost use Rattle.kinds.specs.Sizes.{benches_of, places};
 ghost use Rattle.bench.specs.Turns.{awaited_at, awaits_of, forbids_at, forbids_of, gather_of, refuses, concludes, next_round, go_on_of, turn_of};
 
-use crate::{Bench, DECIDED, Gathered, Heard, RUNNING, Turn, Turned};
+use crate::{Bench, DECIDED, Entry, Heard, RUNNING, Turn, Turned};
 use kinds::{DEPTH, Message, Refusal, RoundMessage, RoundNo, Size, SlotNo};
 use sets::{benches_of, has};
 
@@ -42,7 +42,7 @@ impl Bench {
 
     // The third visit: the least value heard from a member, and the members heard.
     #[tactic(auto, using(crate::proofs::Visits::least_heard, crate::proofs::Visits::least_other), unfolding(crate::specs::Turns::least, crate::specs::Turns::gather_of))]
-    fn gather(self, h: Heard, size: Size) -> Gathered
+    fn gather(self, h: Heard, size: Size) -> Entry
         ensures { result ≡ gather_of (benches_of size) self h }
     {
         let both = self.world & h.set;
@@ -50,10 +50,10 @@ impl Bench {
         let n = benches_of(size) as usize;
         for k in 0..n {
             if has(both, k) {
-                value = value.min(h.values[k]);
+                value = value.min(h.entries[k].value.0);
             }
         }
-        Gathered {
+        Entry {
             value: SlotNo(value),
             world: both,
         }
@@ -80,8 +80,8 @@ impl Bench {
         if !has(h.set, k) {
             return !has(self.outs, k);
         }
-        let world = h.worlds[k];
-        h.values[k] != self.value.0 || (world & self.world) != world
+        let Entry { value, world } = h.entries[k];
+        value.0 != self.value.0 || (world & self.world) != world
     }
 
     fn refused(self, refusal: Refusal) -> Turned
@@ -112,7 +112,7 @@ impl Bench {
     fn go_on(self, h: Heard, size: Size) -> Turned
         ensures { result ≡ go_on_of (benches_of size) self h }
     {
-        let Gathered { value, world } = self.gather(h, size);
+        let Entry { value, world } = self.gather(h, size);
         let round = RoundNo(round_after(self.round.0));
         let mut bench = self;
         bench.state = RUNNING;

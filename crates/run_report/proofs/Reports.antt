@@ -1,4 +1,6 @@
 -- The report from its parts: the lines of the answers, and what stands behind them. Assumes nothing.
+use Rattle.bench.specs.declared.Bench.{Bench}
+use Rattle.bench.specs.declared.Entry.{Entry}
 use Prim.Native.Nat.{ℕ, ◌+◌, ◌*◌, ◌≤◌, ◌<◌}
 use native.Mathlib.Omega.{arith}
 use mathlib.Core.List.{List, ◌++◌}
@@ -35,7 +37,7 @@ pub record Made (z : Size) (text answers rest : List ℕ) (m : ℕ) : Type 0 whe
 pub benches_room : (z : Size) (n : ℕ) → 67 * places + 36 ≤ n → 67 * benches_of z ≤ n
 benches_room z n h = omega (arith, benches_fit z)
 
-totals_room : (z : Size) {rest₀ rest₁ : List ℕ} (t : List (List ℕ)) {at : ℕ} → Stored rest₀ 0 (row_lines t (benches_of z)) at rest₁ → 67 * places + 36 ≤ length rest₀ → at + 36 ≤ length rest₁
+totals_room : (z : Size) {rest₀ rest₁ : List ℕ} (t : List Bench) {at : ℕ} → Stored rest₀ 0 (row_lines t (benches_of z)) at rest₁ → 67 * places + 36 ≤ length rest₀ → at + 36 ≤ length rest₁
 totals_room z t s h = omega (arith, s.place, stored_length s, rows_short t (benches_of z), benches_fit z)
 
 -- where there is room for two parts there is room for the first
@@ -43,11 +45,11 @@ pub room_front : (k m : ℕ) {n : ℕ} → k + m ≤ n → k ≤ n
 room_front k m h = omega arith
 
 -- a text has no more lines than bytes
-pub lines_few : {z : Size} {text answers : List ℕ} {t l : List (List ℕ)} {n : ℕ} → Played z text t l n answers → length text ≤ longest → length (take n answers) ≤ longest
+pub lines_few : {z : Size} {text answers : List ℕ} {t : List Bench} {l : List (List Entry)} {n : ℕ} → Played z text t l n answers → length text ≤ longest → length (take n answers) ≤ longest
 lines_few {answers = answers} {n = n} p h = omega (arith, p.few, length-take-le n answers p.inside)
 
 -- what stands behind them is stored from the tables and the answers after the text was played: k lines, r of them refused
-pub made : {z : Size} {text answers rest₀ rest₁ rest : List ℕ} {t l : List (List ℕ)} {n at m r : ℕ} → Played z text t l n answers
+pub made : {z : Size} {text answers rest₀ rest₁ rest : List ℕ} {t : List Bench} {l : List (List Entry)} {n at m r : ℕ} → Played z text t l n answers
     → Stored rest₀ 0 (row_lines t (benches_of z)) at rest₁ → r ≡ refused_in (take n answers) → Put rest₁ at (totals n r) m rest
     → 67 * places + 36 ≤ length rest₀ → Made z text (take n answers) rest m
 unfolding run_report_of run_report_for

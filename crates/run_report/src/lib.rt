@@ -21,7 +21,7 @@ use playing::play;
 use reports::LONGEST;
 use room::bytes::put_bytes;
 use room::totals::put_totals;
-use tables::{LOG, ROW};
+use tables::Tables;
 use totals::refused_in;
 
 // Room for every report of a text that is not too long (`room_enough` of crate `reports`).
@@ -39,13 +39,12 @@ pub fn report(text: &[u8], room: &mut [u8]) -> Result<usize, Refusal>
     if LONGEST < text.len() {
         return Err(Refusal::LongText);
     }
-    let mut benches = [[0u32; ROW]; PLACES];
-    let mut logs = [[0u32; LOG]; PLACES];
+    let mut tables = Tables::new();
     let mut kept = [0u8; LONGEST];
-    let lines = play(text, &mut benches, &mut logs, &mut kept, Size::Sixteen);
+    let lines = play(text, &mut tables, &mut kept, Size::Sixteen);
     let answers = &kept[..lines];
     let mut rest = [0u8; REST];
-    let last = store_benches(&mut rest, &benches, Size::Sixteen);
+    let last = store_benches(&mut rest, &tables.benches, Size::Sixteen);
     let n = put_totals(&mut rest, last, lines as u32, refused_in(answers));
     if !room_for(room, answers, n) {
         return Err(Refusal::ShortRoom);
