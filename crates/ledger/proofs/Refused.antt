@@ -12,7 +12,6 @@ use Rattle.kinds.specs.declared.Refusal.{Refusal}
 use Rattle.kinds.specs.declared.Refusal.TheVariants.{NoSuchBench, SameBench, WrongState, LargeValue, WrongWorld, WorldLacksOne, LackedByOne, NothingWaits, LineClosed, HasNotFailed, MemberAwaited, JoinedAlready, WrongFirstSlot, NotJoined, EndedAlready, PastLastSlot, EndAboveOpen, EndBelowNext, Malformed, NotWritable, ShortRoom, LongText, NotClosed, StoreFull}
 use Rattle.kinds.specs.Refusals.{number_of, answer_of}
 use Rattle.std.specs.Prelude.{Result, Ok, Err, IfOk}
-use Rattle.std.proofs.Common.{rules}
 use Rattle.book.specs.Book.{last_slot, is_open, open_slot, Book, sweep, close, answer, checks, after, step}
 
 pub number_positive : (r : Refusal) → 0 < number_of r

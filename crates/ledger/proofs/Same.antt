@@ -2,7 +2,6 @@
 use mathlib.Core.Path.{◌≡◌, refl, ap, sym, ◌∙◌}
 use Prim.Native.Nat.{ℕ}
 use mathlib.Core.List.{List, [], ◌∷◌, ◌++◌, map}
-use native.Mathlib.Omega.{arith}
 use lib.ListN.{take, drop, take-append-drop}
 use Rattle.common.proofs.Tests.{clash}
 use Rattle.book.specs.Book.{Sweep}

@@ -1,14 +1,13 @@
 -- Two answers that the promise of a step allows are equal: the number, the cursor, the rows and the room, and of a hand-out every place of the
 -- receiving buffer. Assumes nothing.
-use mathlib.Core.Path.{◌≡◌, refl, ap, sym, ◌∙◌}
+use mathlib.Core.Path.{◌≡◌, ap, sym, ◌∙◌}
 use Prim.Native.Nat.{ℕ}
 use mathlib.Core.Bool.{cond}
 use mathlib.Core.List.{List}
 use lib.ListN.{length, drop}
 use lib.Dec.{eqb}
-use Rattle.std.specs.Prelude.{Result, Ok, Err}
+use Rattle.std.specs.Prelude.{Result}
 use Rattle.kinds.specs.declared.Refusal.{Refusal}
-use Rattle.kinds.specs.Refusals.{answer_of}
 use Rattle.book.specs.Book.{Book, Step, hand_out, step}
 use Rattle.ledger.specs.declared.Cursor.{Cursor}
 use Rattle.ledger.specs.declared.Ledger.{Ledger}

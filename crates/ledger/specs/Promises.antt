@@ -1,6 +1,6 @@
 -- What each step of the code promises: the answer and the book that `book` states for senders 1 to n, and what becomes of every part of the ledger.
 -- This file is to be believed. Two answers that one promise allows are equal (proofs/Settles), so nothing is left open.
-use Rattle.std.specs.Prelude.{◌≡◌, ℕ, ◌-◌, ◌^◌, cond, Result, IfOk, List, [], ◌∷◌, ◌++◌, length, drop, set, replicate, eqb}
+use Rattle.std.specs.Prelude.{◌≡◌, ℕ, ◌-◌, ◌^◌, cond, Result, IfOk, List, ◌++◌, length, drop, set, replicate, eqb}
 use Rattle.std.specs.Int.Bits.{bit_or}
 use Rattle.kinds.specs.declared.Refusal.{Refusal}
 use Rattle.kinds.specs.Refusals.{answer_of}
@@ -11,7 +11,7 @@ use Rattle.senders.specs.Kept.{kept_of}
 use Rattle.ledger.specs.declared.Cursor.{Cursor}
 use Rattle.ledger.specs.declared.Ledger.{Ledger}
 use Rattle.ledger.specs.declared.Sweep.{Sweep}
-use Rattle.ledger.specs.Seen.{next_by, held_by, joined_by, book_of}
+use Rattle.ledger.specs.Seen.{held_by, book_of}
 
 -- the cursor of a book and the set of the senders that have joined
 unfoldable pub cursor_of : Book → ℕ → Cursor

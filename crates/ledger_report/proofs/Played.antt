@@ -1,4 +1,4 @@
--- A script played line by line: what is stored so far, and what is still to come. Assumes nothing.
+-- A script played line by line: what is written so far, and what is still to come. Assumes nothing.
 use Prim.Native.Nat.{ℕ, suc, ◌+◌, ◌-◌, ◌≤◌, ◌<◌}
 use native.Mathlib.Omega.{arith}
 use native.Mathlib.Nat.{add-zero, zero-add}
@@ -21,7 +21,9 @@ use Rattle.spelling.specs.Answers.{totals, refusal_of}
 use Rattle.spelling.specs.declared.LedgerStep.{LedgerStep}
 use Rattle.spelling.specs.LedgerReading.{ledger_said_of, read_script, read_script_line_of}
 use Rattle.spelling.specs.LedgerSteps.{step_is}
-use Rattle.spelling.proofs.Stores.{Left, left_start, left_step, left_end, left_room}
+use Rattle.room.specs.declared.writer.Writer.{Writer}
+use Rattle.room.specs.Writes.{Writes, Holds}
+use Rattle.room.proofs.Writers.{Going, going_start, going_step, going_holds, going_end}
 use Rattle.spelling.proofs.Answers.{refusal_one}
 use Rattle.spelling.proofs.LedgerLines.{few_tags}
 use Rattle.spelling.proofs.LineTrip.{Reads as Line, line_reads_on, line_ends}
@@ -123,36 +125,36 @@ module _ (text : List ℕ) (at : ℕ) where
 
 -- ---- the script, line by line
 
--- the first `lines` lines, which stand before the place, are played, `refused` of them were refused, and their answers are stored up to `next`; the rest
--- of the report is that of the other lines, played on from the ledger x. room₀ held what was there before
-pub record Playing (size : Size) (text room₀ : List ℕ) (x : Ledger) (room : List ℕ) (at next lines refused : ℕ) : Type 0 where
+-- the first `lines` lines, which stand before the place, are played, `refused` of them were refused, and their answers are written; the rest
+-- of the report is that of the other lines, played on from the ledger x
+pub record Playing (size : Size) (text : List ℕ) (first : Writer) (x : Ledger) (out : Writer) (at lines refused : ℕ) : Type 0 where
   pub within : at ≤ length text
   pub few : lines ≤ at
   pub fewer : refused ≤ lines
   pub made : Made (benches_of size) x
-  pub left : Left room₀ 0 (ledger_report_of size text) room next (rest_of size lines refused (book_of x) (read_script (drop at text)))
+  pub going : Going first (ledger_report_of size text) out (rest_of size lines refused (book_of x) (read_script (drop at text)))
 
-module _ (size : Size) (text room₀ : List ℕ) where
-  pub playing_none : (x : Ledger) → Begins 0 x → Playing size text room₀ x room₀ 0 0 0 0
+module _ (size : Size) (text : List ℕ) (first : Writer) where
+  pub playing_none : (x : Ledger) → Begins 0 x → Playing size text first x first 0 0 0
   playing_none x p =
       record {
         within = omega arith;
         few = omega arith;
         fewer = omega arith;
         made = made_new (benches_of size) 0 x p;
-        left = rw (p.book_is, ← report_rest size text) (left_start room₀ 0 (ledger_report_of size text));
+        going = rw (p.book_is, ← report_rest size text) (going_start first (ledger_report_of size text));
       }
 
-  module _ (x : Ledger) (room : List ℕ) (at next lines refused : ℕ) (p : Playing size text room₀ x room at next lines refused) where
+  module _ (x : Ledger) (out : Writer) (at lines refused : ℕ) (p : Playing size text first x out at lines refused) where
     -- the line y stands at the place, and the next begins at `behind`
     module _ (y : Option LedgerStep) (behind : ℕ) (e : read_script_line_of text at ≡ Some (y, behind)) where
       abbrev now : Book
       now = book_of x
 
-      here : Left room₀ 0 (ledger_report_of size text) room next
+      here : Going first (ledger_report_of size text) out
           (line_for size (lines + 1) now y ++ rest_of size (lines + 1) (refused + refusal size now y) (ledger_answer_to size now y).book (read_script (drop behind text)))
       unfolding rest_of
-      here = rw (read_on text at y behind (line_here text at y behind e)) at p.left
+      here = rw (read_on text at y behind (line_here text at y behind e)) at p.going
 
       -- less of the text is left
       pub playing_less : length text - behind < length text - at
@@ -163,23 +165,23 @@ module _ (size : Size) (text room₀ : List ℕ) where
         line_is : line_for size (lines + 1) now y ≡ ledger_line (lines + 1) (answer_of r) (handed_of r) (take (count_of r) tags')
         line_is = rw (q.handed_is, front_is size x tags y r x' tags' q, number_told size x y (answer_of r) x' q.tells) refl
 
-        pub playing_room : length (ledger_report_of size text) ≤ length room₀ → next + length (ledger_line (lines + 1) (answer_of r) (handed_of r) (take (count_of r) tags')) ≤ length room
-        playing_room z = rw (← line_is) (left_room (line_for size (lines + 1) now y) _ here (omega arith))
+        pub playing_room : Holds first (ledger_report_of size text) → Holds out (ledger_line (lines + 1) (answer_of r) (handed_of r) (take (count_of r) tags'))
+        playing_room z = rw (← line_is) (going_holds (line_for size (lines + 1) now y) _ here z)
 
-        pub playing_more : (n : ℕ) → n ≡ from_bool (is_err r) → (room' : List ℕ) (next' : ℕ)
-            → Stored room next (ledger_line (lines + 1) (answer_of r) (handed_of r) (take (count_of r) tags')) next' room' → Playing size text room₀ x' room' behind next' (lines + 1) (refused + n)
-        playing_more n is room' next' s =
+        pub playing_more : (n : ℕ) → n ≡ from_bool (is_err r) → (next : Writer)
+            → Writes out (ledger_line (lines + 1) (answer_of r) (handed_of r) (take (count_of r) tags')) next → Playing size text first x' next behind (lines + 1) (refused + n)
+        playing_more n is next s =
             let d = line_here text at y behind e in
             let told = q.tells in
             let en = is ∙ refused_one r in
-            let stored : Stored room next (line_for size (lines + 1) now y) next' room' = rw line_is s in
+            let written : Writes out (line_for size (lines + 1) now y) next = rw line_is s in
             let same : n ≡ refusal size now y = en ∙ ap refusal_of (number_told size x y (answer_of r) x' told) in
             record {
               within = d.within;
               few = omega (arith, p.few, d.above);
               fewer = omega (arith, p.fewer, refusal_one (answer_of r) n en);
               made = made_told size x y (answer_of r) x' told p.made;
-              left = rw (book_told size x y (answer_of r) x' told, same) (left_step _ here stored);
+              going = rw (book_told size x y (answer_of r) x' told, same) (going_step _ here written);
             }
 
     -- the end
@@ -188,14 +190,15 @@ module _ (size : Size) (text room₀ : List ℕ) where
       unfolding rest_of
       last_is = rw (read_ends text at h) refl
 
-      last : Left room₀ 0 (ledger_report_of size text) room next (last_lines size (book_of x) lines refused ++ [])
-      last = rw append-nil (rw last_is at p.left)
+      last : Going first (ledger_report_of size text) out (last_lines size (book_of x) lines refused ++ [])
+      last = rw append-nil (rw last_is at p.going)
 
       pub held_is : held_by x ≡ length (book_of x).held
       held_is = p.made.count_is
 
-      pub end_room : length (ledger_report_of size text) ≤ length room₀ → next + length (last_lines size (book_of x) lines refused) ≤ length room
-      end_room r = left_room (last_lines size (book_of x) lines refused) [] last (omega arith)
+      pub end_room : Holds first (ledger_report_of size text) → Holds out (last_lines size (book_of x) lines refused)
+      end_room r = going_holds (last_lines size (book_of x) lines refused) [] last r
 
-      pub playing_all : {room' : List ℕ} {next' : ℕ} → Stored room next (last_lines size (book_of x) lines refused) next' room' → Stored room₀ 0 (ledger_report_of size text) next' room'
-      playing_all s = left_end (left_step [] last s)
+      pub playing_all : {end : Writer} {after : List ℕ} → Writes out (last_lines size (book_of x) lines refused) end → after ≡ end.room.now
+          → Stored first.room.now first.at (ledger_report_of size text) end.at after
+      playing_all s e = rw e (going_end (going_step [] last s)).stored

@@ -1,3 +1,4 @@
--- Laws of this crate: stores, and a number's digits.
+-- Laws of this crate: stores, a number's digits, and writers.
 pub mod Cuts
 pub mod Digits
+pub mod Writers

@@ -2,9 +2,10 @@
 ghost use Rattle.std.specs.Prelude.{◌≡◌, ◌++◌, ◌+◌, ◌≤◌, leb, length};
 ghost use Rattle.std.specs.List.{prefix_len};
 ghost use Rattle.spelling.specs.Numbers.{digits};
-ghost use Rattle.spelling.specs.Stored.{Stored, fitting};
+ghost use Rattle.spelling.specs.Stored.{Stored};
+ghost use Rattle.room.specs.Writes.{Holds, Puts, Writes};
 
-use crate::bytes::{has_room, store_bytes};
+use crate::writer::Writer;
 use itoa::write_digits;
 
 const POWERS: [u32; 9] = [
@@ -24,55 +25,65 @@ fn powers_reached(n: u32) -> usize
     POWERS.iter().take_while(|power| **power <= n).count()
 }
 
-// Stores n in decimal. Most numbers of a text have one digit.
-pub(crate) fn store_number(room: &mut [u8], at: usize, n: u32) -> usize
+// Stores n from a place on, and answers the place behind it.
+fn store_digits(room: &mut [u8], at: usize, n: u32) -> usize
     requires { at + length (digits n) ≤ length room.old }
     ensures { Stored room.old at (digits n) result room.new }
 {
-    if n < 10 {
-        room[at] = b'0' + n as u8;
-        return at + 1;
-    }
     let end = at + number_length(n);
     write_digits(u64::from(n), room, end);
     end
 }
 
-// Stores a key and a number behind it. Where it is called the key is a constant: as part of its caller it stores words, and calls no memcpy.
-#[inline(always)]
-pub(crate) fn store_field(room: &mut [u8], at: usize, key: &[u8], n: u32) -> usize
-    requires { at + length (key.now ++ digits n) ≤ length room.old }
-    ensures { Stored room.old at (key.now ++ digits n) result room.new }
-{
-    let a = store_bytes(room, at, key);
-    store_number(room, a, n)
-}
-
-// Stores n in decimal from a place on, where the room holds it, and answers the place behind it. Else the room is as it was, and the
-// answer is the place that was given.
-pub fn put_number(room: &mut [u8], at: usize, n: u32) -> usize
-    ensures { Stored room.old at (fitting room.old at (digits n)) result room.new }
-{
-    if !has_room(room, at, number_length(n)) {
-        return at;
+impl Writer<'_> {
+    // Most numbers of a text have one digit: that is stored without a call.
+    #[inline(always)]
+    pub(crate) fn store_number(&mut self, n: u32)
+        requires { Holds self.old (digits n) }
+        ensures { Writes self.old (digits n) self.new }
+    {
+        if n < 10 {
+            self.room[self.at] = b'0' + n as u8;
+            self.at += 1;
+            return;
+        }
+        self.at = store_digits(self.room, self.at, n);
     }
-    store_number(room, at, n)
-}
 
-// Whether a slice has room for a key and a number from a place on. A number has at most 10 digits, so that it is measured in a short
-// room alone.
-fn has_room_for_field(room: &[u8], at: usize, key: &[u8], n: u32) -> bool
-    ensures { result ≡ leb (at + length (key.now ++ digits n)) (length room.now) }
-{
-    has_room(room, at, key.len() + 10) || has_room(room, at, key.len() + number_length(n))
-}
-
-// Stores a key and a number behind it, in the same way.
-pub fn put_field(room: &mut [u8], at: usize, key: &[u8], n: u32) -> usize
-    ensures { Stored room.old at (fitting room.old at (key.now ++ digits n)) result room.new }
-{
-    if !has_room_for_field(room, at, key, n) {
-        return at;
+    // The key is a constant where this is called: as part of its caller it stores words, and calls no memcpy.
+    #[inline(always)]
+    pub(crate) fn store_field(&mut self, key: &[u8], n: u32)
+        requires { Holds self.old (key.now ++ digits n) }
+        ensures { Writes self.old (key.now ++ digits n) self.new }
+    {
+        self.store_bytes(key);
+        self.store_number(n);
     }
-    store_field(room, at, key, n)
+
+    // Writes n in decimal, where the room holds it.
+    pub fn put_number(&mut self, n: u32)
+        ensures { Puts self.old (digits n) self.new }
+    {
+        if !self.has_room(number_length(n)) {
+            return;
+        }
+        self.store_number(n);
+    }
+
+    // A number has at most 10 digits, so that it is measured in a short room alone.
+    fn has_room_for_field(&self, key: &[u8], n: u32) -> bool
+        ensures { result ≡ leb (self.now.at + length (key.now ++ digits n)) (length self.now.room.now) }
+    {
+        self.has_room(key.len() + 10) || self.has_room(key.len() + number_length(n))
+    }
+
+    // Writes a key and a number behind it, where the room holds both.
+    pub fn put_field(&mut self, key: &[u8], n: u32)
+        ensures { Puts self.old (key.now ++ digits n) self.new }
+    {
+        if !self.has_room_for_field(key, n) {
+            return;
+        }
+        self.store_field(key, n);
+    }
 }

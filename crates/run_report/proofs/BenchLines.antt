@@ -20,11 +20,11 @@ use Rattle.reads.specs.Decisions.{decision_is}
 use Rattle.std.specs.Prelude.{Option}
 use Rattle.kinds.specs.declared.SlotNo.{SlotNo}
 use Rattle.reads.specs.Reads.{state_word, sent_word, decision_at}
-use Rattle.spelling.specs.Numbers.{ascii, digits}
-use Rattle.spelling.specs.Stored.{Stored}
-use Rattle.spelling.proofs.Stores.{stored_nil, stored_then, stored_length}
-use Rattle.spelling.proofs.Puts.{Put, put_then, put_last}
-use Rattle.reports.specs.RunReport.{state_text, last_round, value_text, bench_line, bench_lines}
+use Rattle.spelling.proofs.Stores.{stored_length}
+use Rattle.room.specs.declared.writer.Writer.{Writer}
+use Rattle.room.specs.Writes.{Writes}
+use Rattle.room.proofs.Writers.{writes_none, writes_then}
+use Rattle.reports.specs.RunReport.{last_round, bench_line, bench_lines}
 use Rattle.reports.proofs.RunLines.{spelled, spelled_short}
 use Rattle.reports.proofs.LastRounds.{last_append}
 use Rattle.run_report.specs.Parts.{row_line, row_lines}
@@ -85,51 +85,44 @@ above_failed (suc (suc (suc (suc zero)))) h₀ h₁ h₂ h₃ h₄ = absurd (h�
 above_failed (suc (suc (suc (suc (suc n))))) h₀ h₁ h₂ h₃ h₄ = refl
 
 module _ (t : List Bench) (b state : ℕ) (e : state ≡ state_word t b) where
-  pub fresh_stored : (l : List ℕ) (at : ℕ) → state ≡ 0 → Stored l at (row_line t b) at l
+  pub fresh_written : (out : Writer) → state ≡ 0 → Writes out (row_line t b) out
   unfolding row_line
-  fresh_stored l at z = rw (eq-eqb (state_word t b) 0 (sym e ∙ z)) (stored_nil l at)
+  fresh_written out z = rw (eq-eqb (state_word t b) 0 (sym e ∙ z)) (writes_none out)
 
-  pub row_stored : (sent : ℕ) (d : Option SlotNo) → sent ≡ sent_word t b → decision_is d ≡ decision_at t b → (state ≡ 0 → ⊥)
-      → {l l₁ l₂ l₃ l₄ l₅ l₆ l₇ : List ℕ} {at n₁ n₂ n₃ n₄ n₅ n₆ n₇ : ℕ}
-      → Put l at (ascii "bench=" ++ digits b) n₁ l₁ → Put l₁ n₁ (ascii " state=") n₂ l₂ → Put l₂ n₂ (state_text (state_of state)) n₃ l₃
-      → Put l₃ n₃ (ascii " round=" ++ digits sent) n₄ l₄ → Put l₄ n₄ (ascii " value=") n₅ l₅ → Put l₅ n₅ (value_text (decision_is d)) n₆ l₆
-      → Put l₆ n₆ (10 ∷ []) n₇ l₇ → at + 67 ≤ length l → Stored l at (row_line t b) n₇ l₇
+  pub row_is : (sent : ℕ) (d : Option SlotNo) → sent ≡ sent_word t b → decision_is d ≡ decision_at t b → (state ≡ 0 → ⊥)
+      → row_line t b ≡ spelled b (state_of state) sent (decision_is d)
   unfolding row_line
-  row_stored sent d es ed ne {l} {at = at} p₁ p₂ p₃ p₄ p₅ p₆ p₇ h =
-      let s = spelled_short b (state_of state) sent (decision_is d) in
-      rw (← e, ← es, ← ed, ne_eqb state 0 ne)
-      (put_then (ascii "bench=" ++ digits b) _ p₁ (put_then (ascii " state=") _ p₂ (put_then (state_text (state_of state)) _ p₃
-      (put_then (ascii " round=" ++ digits sent) _ p₄ (put_then (ascii " value=") _ p₅ (put_then (value_text (decision_is d)) _ p₆ (put_last _ p₇)))))) (omega arith))
+  row_is sent d es ed ne = rw (← e, ← es, ← ed, ne_eqb state 0 ne) refl
 
--- ---- the lines stored, bench by bench
+-- ---- the lines written, bench by bench
 
--- of n benches the lines of those below b are stored
-pub record Listed (n : ℕ) (room₀ : List ℕ) (t : List Bench) (room : List ℕ) (at b : ℕ) : Type 0 where
+-- of n benches the lines of those below b are written
+pub record Listed (n : ℕ) (first : Writer) (t : List Bench) (out : Writer) (b : ℕ) : Type 0 where
   pub upto : b ≤ n + 1
-  pub short : at + 67 ≤ 67 * b
-  pub stored : Stored room₀ 0 (row_lines t (b - 1)) at room
+  pub short : out.at + 67 ≤ first.at + 67 * b
+  pub written : Writes first (row_lines t (b - 1)) out
 
 lines_next : (t : List Bench) (b : ℕ) → 1 ≤ b → row_lines t (b + 1 - 1) ≡ row_lines t (b - 1) ++ row_line t b
 unfolding row_lines
 lines_next t zero h = absurd (omega arith)
 lines_next t (suc k) h = let e : suc k + 1 - 1 ≡ suc k = omega arith in let d : suc k - 1 ≡ k = omega arith in rw (e, d) refl
 
-module _ (n : ℕ) (room₀ : List ℕ) (t : List Bench) where
-  pub listed_none : Listed n room₀ t room₀ 0 1
+module _ (n : ℕ) (first : Writer) (t : List Bench) where
+  pub listed_none : Listed n first t first 1
   unfolding row_lines
-  listed_none = record { upto = omega arith; short = omega arith; stored = stored_nil room₀ 0 }
+  listed_none = record { upto = omega arith; short = omega arith; written = writes_none first }
 
-  module _ (room : List ℕ) (at b : ℕ) (p : Listed n room₀ t room at b) where
-    pub listed_room : (N : ℕ) → n ≡ N → b ≤ n → 67 * N ≤ length room₀ → at + 67 ≤ length room
-    listed_room N e h r = omega (arith, p.short, stored_length p.stored)
+  module _ (out : Writer) (b : ℕ) (p : Listed n first t out b) where
+    pub listed_room : (N : ℕ) → n ≡ N → b ≤ n → first.at + 67 * N ≤ length first.room.now → out.at + 67 ≤ length out.room.now
+    listed_room N e h r = omega (arith, p.short, stored_length p.written.stored)
 
-    pub listed_more : 1 ≤ b → b ≤ n → (room' : List ℕ) (next : ℕ) → Stored room at (row_line t b) next room' → Listed n room₀ t room' next (b + 1)
-    listed_more h u room' next s =
+    pub listed_more : 1 ≤ b → b ≤ n → (next : Writer) → Writes out (row_line t b) next → Listed n first t next (b + 1)
+    listed_more h u next s =
         record {
           upto = omega arith;
-          short = omega (arith, p.short, s.place, row_short t b);
-          stored = rw (lines_next t b h) (stored_then p.stored s);
+          short = omega (arith, p.short, s.stored.place, row_short t b);
+          written = rw (lines_next t b h) (writes_then p.written s);
         }
 
-    pub listed_all : (N : ℕ) → n ≡ N → n < b → Stored room₀ 0 (row_lines t N) at room
-    listed_all N e h = let q : b - 1 ≡ N = omega (arith, p.upto) in rw q at p.stored
+    pub listed_all : (N : ℕ) → n ≡ N → n < b → Writes first (row_lines t N) out
+    listed_all N e h = let q : b - 1 ≡ N = omega (arith, p.upto) in rw q at p.written

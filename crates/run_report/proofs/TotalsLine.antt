@@ -1,4 +1,4 @@
--- The report's last line: how the answers not 0 are counted, and that the line is stored. Assumes nothing.
+-- The report's last line: how the answers not 0 are counted, and that the line is written. Assumes nothing.
 use Prim.Native.Nat.{ℕ, ◌+◌, ◌≤◌}
 use native.Mathlib.Omega.{arith}
 use mathlib.Core.List.{List}
@@ -7,8 +7,9 @@ use Rattle.std.proofs.Common.{not, cond, sym, ◌∷◌, eqb, count_by}
 use Rattle.std.proofs.lemmas.List.Recursion.{is_count_by}
 use lib.ListN.{length}
 use Rattle.common.proofs.Tests.{split}
-use Rattle.spelling.specs.Stored.{Stored}
-use Rattle.spelling.proofs.Puts.{Put, put_last}
+use Rattle.room.specs.declared.writer.Writer.{Writer}
+use Rattle.room.specs.Writes.{Writes, Puts}
+use Rattle.room.proofs.Writers.{put_last}
 use Rattle.spelling.specs.Answers.{totals}
 use Rattle.spelling.proofs.Answers.{totals_short}
 use Rattle.reports.specs.RunReport.{refused_in, totals_of}
@@ -24,7 +25,7 @@ refused_counted l = sym (is_count_by refused_in (λ (a : ℕ). not (eqb a 0)) (u
 
 -- ---- the line
 
-pub totals_stored : (l : List ℕ) {n k : ℕ} {room after : List ℕ} {at next : ℕ} → k ≡ length l → n ≡ refused_in l → at + 36 ≤ length room
-    → Put room at (totals k n) next after → Stored room at (totals_of l) next after
+pub totals_written : (l : List ℕ) {n k : ℕ} {out after : Writer} → k ≡ length l → n ≡ refused_in l → out.at + 36 ≤ length out.room.now
+    → Puts out (totals k n) after → Writes out (totals_of l) after
 unfolding totals_of
-totals_stored l ek en h p = put_last (totals (length l) (refused_in l)) (rw (ek, en) at p) (omega (arith, totals_short (length l) (refused_in l)))
+totals_written l ek en h p = put_last (totals (length l) (refused_in l)) (rw (ek, en) at p) (omega (arith, totals_short (length l) (refused_in l)))

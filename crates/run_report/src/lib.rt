@@ -19,8 +19,7 @@ use benches::store_benches;
 use kinds::{PLACES, Refusal, Size};
 use playing::play;
 use reports::LONGEST;
-use room::bytes::put_bytes;
-use room::totals::put_totals;
+use room::Writer;
 use tables::Tables;
 use totals::refused_in;
 
@@ -44,13 +43,19 @@ pub fn report(text: &[u8], room: &mut [u8]) -> Result<usize, Refusal>
     let lines = play(text, &mut tables, &mut kept, Size::Sixteen);
     let answers = &kept[..lines];
     let mut rest = [0u8; REST];
-    let last = store_benches(&mut rest, &tables.benches, Size::Sixteen);
-    let n = put_totals(&mut rest, last, lines as u32, refused_in(answers));
-    if !room_for(room, answers, n) {
+    let mut end = Writer {
+        room: &mut rest,
+        at: 0,
+    };
+    store_benches(&mut end, &tables.benches, Size::Sixteen);
+    end.put_totals(lines as u32, refused_in(answers));
+    if !room_for(room, answers, end.at) {
         return Err(Refusal::ShortRoom);
     }
-    let at = store_answers(room, answers);
-    Ok(put_bytes(room, at, &rest[..n]))
+    let mut out = Writer { room, at: 0 };
+    store_answers(&mut out, answers);
+    out.put_bytes(end.written());
+    Ok(out.at)
 }
 
 // The same for C, to which crate run_report_c hands it on: the report's length, or 0 of a refusal. No report has the length 0.

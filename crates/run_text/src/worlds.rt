@@ -1,14 +1,13 @@
-// How a world is spelled: read by world_at, stored by store_world, measured by world_length. Nothing else knows it.
-ghost use Rattle.std.specs.Prelude.{◌≡◌, ◌++◌, ◌+◌, ◌≤◌, length};
+// How a world is spelled: read by world_at, written by write_world. Nothing else knows it.
+ghost use Rattle.std.specs.Prelude.{◌≡◌};
 ghost use Rattle.kinds.specs.Sizes.{benches_of};
-ghost use Rattle.spelling.specs.Numbers.{digits};
 ghost use Rattle.spelling.specs.Spelling.{world_text, is_world};
-ghost use Rattle.spelling.specs.Stored.{Stored};
+ghost use Rattle.room.specs.Writes.{Holds, Writes};
 ghost use Rattle.spelling.specs.Storing.{sep_at};
 ghost use Rattle.spelling.specs.Reading.{member_at, world_at};
 
 use kinds::Size;
-use room::decimal;
+use room::Writer;
 use spelling::Found;
 use text::{bytes, numbers};
 
@@ -48,58 +47,24 @@ pub(crate) fn is_world(world: u32, size: Size) -> bool
     world != 0 && sets::fits(world, size)
 }
 
-// How many bytes a member takes behind those so far: a comma, unless it is the first, and the bench.
-fn member_length(sofar: usize, bench: u32) -> usize
-    ensures { result ≡ length (sep_at 0 sofar ++ digits bench) }
+// What stands before a member of a world that begins at a place: a comma, unless it is the first.
+#[tactic(auto, unfolding(spelling::specs::Storing::sep_at))]
+fn separator(from: usize, at: usize) -> &'static [u8]
+    ensures { result.now ≡ sep_at from at }
 {
-    if sofar == 0 {
-        return decimal::number_length(bench);
-    }
-    1 + decimal::number_length(bench)
+    if from < at { b"," } else { b"" }
 }
 
-// How many bytes a world takes.
-pub(crate) fn world_length(world: u32) -> usize
-    ensures { result ≡ length (world_text world) }
+pub(crate) fn write_world(out: &mut Writer, world: u32)
+    requires { Holds out.old (world_text world) }
+    ensures { Writes out.old (world_text world) out.new }
 {
-    let mut n = 0;
-    let mut m = world;
-    let mut bench = 1u32;
-    while 0 < m {
-        if m % 2 == 1 {
-            n = n + member_length(n, bench);
+    let from = out.at;
+    let mut rest = world;
+    for place in 0..32 {
+        if rest % 2 == 1 {
+            out.put_field(separator(from, out.at), place + 1);
         }
-        m = m / 2;
-        bench += 1;
+        rest /= 2;
     }
-    n
-}
-
-// Stores a member of a world that begins at from: a comma, unless it is the first, and the bench.
-fn store_member(room: &mut [u8], from: usize, at: usize, bench: u32) -> usize
-    requires { at + length (sep_at from at ++ digits bench) ≤ length room.old }
-    ensures { Stored room.old at (sep_at from at ++ digits bench) result room.new }
-{
-    if from < at {
-        return decimal::put_field(room, at, b",", bench);
-    }
-    decimal::put_number(room, at, bench)
-}
-
-// Stores a world.
-pub(crate) fn store_world(room: &mut [u8], from: usize, world: u32) -> usize
-    requires { from + length (world_text world) ≤ length room.old }
-    ensures { Stored room.old from (world_text world) result room.new }
-{
-    let mut at = from;
-    let mut m = world;
-    let mut bench = 1u32;
-    while 0 < m {
-        if m % 2 == 1 {
-            at = store_member(room, from, at, bench);
-        }
-        m = m / 2;
-        bench += 1;
-    }
-    at
 }

@@ -1,7 +1,7 @@
 -- `ledger::Ledger::close` meets its contract: who is no sender is answered 1, and a sender's step goes by its checks.
 use Prim.Native.Nat.{◌<◌}
 use native.Mathlib.Omega.{arith}
-use mathlib.Core.Path.{◌≡◌, refl, ap, ◌∙◌}
+use mathlib.Core.Path.{refl, ap, ◌∙◌}
 use lib.ListN.{length}
 use Rattle.std.proofs.lemmas.Result.{err_from_is_err_and}
 use Rattle.senders.specs.Rows.{row_is}

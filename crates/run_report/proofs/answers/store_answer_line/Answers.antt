@@ -1,6 +1,8 @@
 -- `store_answer_line`: the answer's text is put, and byte 10 behind it.
-use Rattle.run_report.proofs.AnswerLines.{line_stored}
+use Rattle.reports.specs.RunReport.{answer_line}
+use Rattle.room.proofs.Writers.{put_then, put_last}
 use Rattle.run_report.proofs.answers.store_answer_line.Goals as goal
 
 pub returns : goal.returns
-returns c = search line_stored
+unfolding answer_line
+returns c = put_then _ _ c.put_answer.ensures (put_last _ c.put_bytes.ensures) c.requires

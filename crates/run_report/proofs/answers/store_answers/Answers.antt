@@ -1,12 +1,12 @@
--- `store_answers`: of all lines, those from here on are still to be stored.
-use Rattle.run_report.proofs.AnswerLines.{storing_room, storing_more, storing_all}
+-- `store_answers`: of all lines, those from here on are still to be written.
+use Rattle.run_report.proofs.AnswerLines.{writing_room, writing_more, writing_all}
 use Rattle.run_report.proofs.answers.store_answers.Goals as goal
 
-pub store_answer_line-at-requires : goal.store_answer_line-at-requires
-store_answer_line-at-requires c = search storing_room
+pub store_answer_line-requires : goal.store_answer_line-requires
+store_answer_line-requires c = search writing_room
 
 pub loop-i-preserved : goal.loop-i-preserved
-loop-i-preserved c = search storing_more
+loop-i-preserved c = search writing_more
 
 pub returns : goal.returns
-returns c = search storing_all
+returns c = search writing_all

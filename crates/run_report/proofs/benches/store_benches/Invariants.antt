@@ -1,6 +1,6 @@
--- `store_benches`: the lines of the benches so far are stored, and none is longer than 67 bytes.
+-- `store_benches`: the lines of the benches so far are written, and none is longer than 67 bytes.
 use Rattle.run_report.proofs.BenchLines.{Listed}
 use Rattle.run_report.proofs.benches.store_benches.Given as goal
 
 abbrev pub invariant-loop-b : goal.invariant-loop-b
-invariant-loop-b l = Listed l.b-end l.initial.room l.benches l.room l.at l.b
+invariant-loop-b l = Listed l.b-end l.initial.out l.benches l.out l.b

@@ -12,6 +12,6 @@ returns-then-bench-benches_of c = member_got _ _ _ _ _ _ c.in_ok-bench.ensures c
 
 pub returns-else-last-bench : goal.returns-else-last-bench
 returns-else-last-bench c = elim c.else-last-bench.branch [
-  else-last-bench-via-then-last-bench+else-bench-benches_of w ↦ member_high _ _ _ _ _ _ c.in_ok-bench.ensures w.if-last-bench.true (omega arith)
+  | else-last-bench-via-then-last-bench+else-bench-benches_of w ↦ member_high _ _ _ _ _ _ c.in_ok-bench.ensures w.if-last-bench.true (omega arith)
   | else-last-bench-via-else-last-bench w ↦ member_low _ _ _ _ _ _ c.in_ok-bench.ensures w.if-last-bench.false
 ]

@@ -1,6 +1,0 @@
--- `store_others`: the tags from here on are still to be stored.
-use Rattle.ledger_report.proofs.AnswerLine.{Others}
-use Rattle.ledger_report.proofs.answers.store_others.Given as goal
-
-abbrev pub invariant-loop-tag : goal.invariant-loop-tag
-invariant-loop-tag l = Others l.initial.room l.at l.tags l.room l.next l.tag-index
