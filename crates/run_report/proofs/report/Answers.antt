@@ -1,6 +1,6 @@
 -- `report` meets its contract: by the parts that stand behind `put_totals`, and by which of the three ways it then goes. Assumes nothing.
 use mathlib.Core.Bool.{not}
-use mathlib.Core.Path.{ap}
+use mathlib.Core.Path.{refl, ap}
 use Rattle.spelling.proofs.Stores.{room_yes, room_not}
 use Rattle.run_report.proofs.Reports.{made, benches_room, lines_few, parts_short, parts_done}
 use borrow.Author.Rules.{rules}
