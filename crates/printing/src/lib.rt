@@ -10,7 +10,7 @@ ghost use Rattle.printing.specs.Printed.{printed, HeldBy};
 
 use kinds::Refusal;
 use reports::LONGEST;
-use room::totals::put_refusal;
+use room::Writer;
 use std::io::{Read, Write};
 use std::{fmt, io};
 
@@ -75,8 +75,12 @@ fn print_text<const ROOM: usize, P: Reporting<ROOM>, W: Write>(
         Ok(length) => to.write_all(&room[..length]),
         Err(refusal) => {
             let mut line = [0u8; REFUSAL_LINE];
-            let end = put_refusal(&mut line, 0, refusal.number());
-            to.write_all(&line[..end])
+            let mut out = Writer {
+                room: &mut line,
+                at: 0,
+            };
+            out.put_refusal(refusal.number());
+            to.write_all(out.written())
         }
     }
 }
