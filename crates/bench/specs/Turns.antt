@@ -1,5 +1,5 @@
 -- A turn of a bench by value: what it makes of what it has heard of its round. N benches.
-use Rattle.std.specs.Prelude.{Bool, cond, not, ◌&&◌, ◌||◌, ℕ, zero, suc, ◌+◌, ◌%◌, min, List, eqb, get_or, Ok, Err}
+use Rattle.std.specs.Prelude.{Bool, cond, not, ◌&&◌, ◌||◌, ℕ, zero, suc, ◌+◌, ◌%◌, min, List, eqb, Ok, Err}
 use Rattle.std.specs.Int.Bits.{bit_and}
 use Rattle.kinds.specs.declared.Message.{Message}
 use Rattle.kinds.specs.declared.Message.TheVariants.{Round, Out}
@@ -10,7 +10,8 @@ use Rattle.common.specs.Places.{has, some}
 use Rattle.bench.specs.Changes.{in_round, choosing}
 use Rattle.bench.specs.declared.Bench.{Bench}
 use Rattle.bench.specs.declared.Heard.{Heard}
-use Rattle.bench.specs.declared.Gathered.{Gathered}
+use Rattle.bench.specs.declared.Entry.{Entry}
+use Rattle.bench.specs.Entries.{entry}
 use Rattle.bench.specs.declared.Turned.{Turned}
 use Rattle.bench.specs.declared.Turn.{Turn}
 use Rattle.bench.specs.declared.Turn.TheVariants.{Decided, Went}
@@ -31,18 +32,18 @@ unfoldable pub forbids_by : Bench → ℕ → Bool → ℕ → ℕ → Bool
 forbids_by b k heard v w = has b.world k && cond heard (differs b v w) (not (has b.outs k))
 
 unfoldable pub forbids_at : Bench → Heard → ℕ → Bool
-forbids_at b h k = forbids_by b k (has h.set k) (get_or h.values k 0) (get_or h.worlds k 0)
+forbids_at b h k = forbids_by b k (has h.set k) (entry h.entries k).value.0 (entry h.entries k).world
 
 unfoldable pub forbids_of : ℕ → Bench → Heard → Bool
 forbids_of N b h = some (forbids_at b h) N
 
 -- the least of v and of the values at the places below n that the set has
-unfoldable pub least : ℕ → ℕ → List ℕ → ℕ → ℕ
-least v set values zero = v
-least v set values (suc n) = cond (has set n) (min (get_or values n 0) (least v set values n)) (least v set values n)
+unfoldable pub least : ℕ → ℕ → List Entry → ℕ → ℕ
+least v set entries zero = v
+least v set entries (suc n) = cond (has set n) (min (entry entries n).value.0 (least v set entries n)) (least v set entries n)
 
-unfoldable pub gather_of : ℕ → Bench → Heard → Gathered
-gather_of N b h = record { value = record { 0 = least b.value.0 (bit_and b.world h.set) h.values N }; world = bit_and b.world h.set }
+unfoldable pub gather_of : ℕ → Bench → Heard → Entry
+gather_of N b h = record { value = record { 0 = least b.value.0 (bit_and b.world h.set) h.entries N }; world = bit_and b.world h.set }
 
 -- what a turn sends
 abbrev pub message_of : Turn → Message

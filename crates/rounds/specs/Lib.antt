@@ -1,2 +1,2 @@
-pub mod Places
 pub mod Sending
+pub mod Stepped

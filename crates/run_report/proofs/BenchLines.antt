@@ -1,4 +1,6 @@
 -- The lines of the benches, by what is read of the table: those of the run that the tables stand for, and how they are written. Assumes nothing.
+use Rattle.bench.specs.declared.Bench.{Bench}
+use Rattle.bench.specs.declared.Entry.{Entry}
 use Prim.Native.Nat.{ℕ, zero, suc, ◌+◌, ◌-◌, ◌*◌, ◌≤◌, ◌<◌}
 use native.Mathlib.Omega.{arith}
 use native.Mathlib.Numerals.{sub-one}
@@ -29,7 +31,7 @@ use Rattle.run_report.specs.Parts.{row_line, row_lines}
 
 -- ---- the row's words are what the report says of the bench
 
-last_rounds : (log : List ℕ) (n : ℕ) → last_round 0 (messages_to log n) ≡ n
+last_rounds : (log : List Entry) (n : ℕ) → last_round 0 (messages_to log n) ≡ n
 unfolding last_round messages_to
 last_rounds log zero = refl
 last_rounds log (suc n) = last_append 0 (messages_to log n) _
@@ -40,7 +42,7 @@ last_out_lem r true = refl
 last_out_lem r false = refl
 
 -- the last round of a bench's messages is how many rounds it has sent
-pub last_sent_lem : (log : List ℕ) (n : ℕ) (out : Bool) → last_round 0 (line_of log n out) ≡ n
+pub last_sent_lem : (log : List Entry) (n : ℕ) (out : Bool) → last_round 0 (line_of log n out) ≡ n
 unfolding line_of
 last_sent_lem log n out = last_append 0 (messages_to log n) _ ∙ rw (last_rounds log n) (last_out_lem n out)
 
@@ -48,24 +50,24 @@ bench_is : (k : ℕ) → k < places → is_bench places (suc k) ≡ true
 unfolding is_bench
 bench_is k h = rw (le-leb 1 (suc k) (omega arith), le-leb (suc k) places (omega arith)) refl
 
-row_line_lem : (t l : List (List ℕ)) (k : ℕ) → k < places → row_line t (suc k) ≡ bench_line (suc k) (run_of t l (suc k))
+row_line_lem : (t : List Bench) (l : List (List Entry)) (k : ℕ) → k < places → row_line t (suc k) ≡ bench_line (suc k) (run_of t l (suc k))
 unfolding row_line bench_line state_word sent_word decision_at run_of run_by bench_of
 row_line_lem t l k h = simp (bench_is k h, sub-one, last_sent_lem, fresh_is)
 
-pub row_lines_lem : (t l : List (List ℕ)) (n : ℕ) → n ≤ places → row_lines t n ≡ bench_lines n (run_of t l)
+pub row_lines_lem : (t : List Bench) (l : List (List Entry)) (n : ℕ) → n ≤ places → row_lines t n ≡ bench_lines n (run_of t l)
 unfolding row_lines bench_lines
 row_lines_lem t l zero h = refl
 row_lines_lem t l (suc n) h = rw (row_lines_lem t l n (omega arith), row_line_lem t l n (omega arith)) refl
 
 -- ---- no line is longer than 67 bytes
 
-row_short : (t : List (List ℕ)) (b : ℕ) → length (row_line t b) ≤ 67
+row_short : (t : List Bench) (b : ℕ) → length (row_line t b) ≤ 67
 unfolding row_line
 row_short t b =
     let w = spelled b (state_of (state_word t b)) (sent_word t b) (decision_at t b) in
     cond_ind (λ (z : List ℕ). length z ≤ 67) (eqb (state_word t b) 0) [] w (λ e. omega arith) (λ e. spelled_short b (state_of (state_word t b)) (sent_word t b) (decision_at t b))
 
-pub rows_short : (t : List (List ℕ)) (n : ℕ) → length (row_lines t n) ≤ 67 * n
+pub rows_short : (t : List Bench) (n : ℕ) → length (row_lines t n) ≤ 67 * n
 unfolding row_lines
 rows_short t zero = omega arith
 rows_short t (suc n) = omega (arith, length-append (row_lines t n) (row_line t (suc n)), rows_short t n, row_short t (suc n))
@@ -82,7 +84,7 @@ above_failed (suc (suc (suc zero))) h₀ h₁ h₂ h₃ h₄ = absurd (h₃ refl
 above_failed (suc (suc (suc (suc zero)))) h₀ h₁ h₂ h₃ h₄ = absurd (h₄ refl)
 above_failed (suc (suc (suc (suc (suc n))))) h₀ h₁ h₂ h₃ h₄ = refl
 
-module _ (t : List (List ℕ)) (b state : ℕ) (e : state ≡ state_word t b) where
+module _ (t : List Bench) (b state : ℕ) (e : state ≡ state_word t b) where
   pub fresh_written : (out : Writer) → state ≡ 0 → Writes out (row_line t b) out
   unfolding row_line
   fresh_written out z = rw (eq-eqb (state_word t b) 0 (sym e ∙ z)) (writes_none out)
@@ -95,17 +97,17 @@ module _ (t : List (List ℕ)) (b state : ℕ) (e : state ≡ state_word t b) wh
 -- ---- the lines written, bench by bench
 
 -- of n benches the lines of those below b are written
-pub record Listed (n : ℕ) (first : Writer) (t : List (List ℕ)) (out : Writer) (b : ℕ) : Type 0 where
+pub record Listed (n : ℕ) (first : Writer) (t : List Bench) (out : Writer) (b : ℕ) : Type 0 where
   pub upto : b ≤ n + 1
   pub short : out.at + 67 ≤ first.at + 67 * b
   pub written : Writes first (row_lines t (b - 1)) out
 
-lines_next : (t : List (List ℕ)) (b : ℕ) → 1 ≤ b → row_lines t (b + 1 - 1) ≡ row_lines t (b - 1) ++ row_line t b
+lines_next : (t : List Bench) (b : ℕ) → 1 ≤ b → row_lines t (b + 1 - 1) ≡ row_lines t (b - 1) ++ row_line t b
 unfolding row_lines
 lines_next t zero h = absurd (omega arith)
 lines_next t (suc k) h = let e : suc k + 1 - 1 ≡ suc k = omega arith in let d : suc k - 1 ≡ k = omega arith in rw (e, d) refl
 
-module _ (n : ℕ) (first : Writer) (t : List (List ℕ)) where
+module _ (n : ℕ) (first : Writer) (t : List Bench) where
   pub listed_none : Listed n first t first 1
   unfolding row_lines
   listed_none = record { upto = omega arith; short = omega arith; written = writes_none first }

@@ -1,4 +1,6 @@
 -- A text played line by line: what is answered so far, and what is still to come. Assumes nothing.
+use Rattle.bench.specs.declared.Bench.{Bench}
+use Rattle.bench.specs.declared.Entry.{Entry}
 use Prim.Native.Nat.{ℕ, ◌+◌, ◌-◌, ◌≤◌, ◌<◌}
 use native.Mathlib.Omega.{arith}
 use native.Mathlib.Numerals.{add-one}
@@ -14,6 +16,7 @@ use Rattle.kinds.specs.declared.Size.{Size}
 use Rattle.kinds.proofs.Sizes.{benches_fit}
 use Rattle.tables.specs.Runs.{run_of}
 use Rattle.tables.specs.Sound.{Sound}
+use Rattle.tables.specs.declared.Tables.{Tables}
 use Rattle.tables.specs.Steps.{Acts, table_step, empty_tables, refused}
 use Rattle.tables.specs.Meets.{Links}
 use Rattle.tables.proofs.Theorems.{empty_sound, empty_run, promise_links}
@@ -26,9 +29,9 @@ use Rattle.run_report.specs.Parts.{Played}
 
 -- ---- one line
 
-module _ (z : Size) (t l : List (List ℕ)) (s : Sound (benches_of z) t l) where
+module _ (z : Size) (t : List Bench) (l : List (List Entry)) (s : Sound (benches_of z) t l) where
   -- a step is answered as the tables answer it
-  pub does_links : (x : Option Step) (a : Step) → x ≡ Some a → (r : ℕ) (t' l' : List (List ℕ)) → Acts r t' l' (table_step (benches_of z) t l (step_of a))
+  pub does_links : (x : Option Step) (a : Step) → x ≡ Some a → (r : ℕ) (t' : List Bench) (l' : List (List Entry)) → Acts r t' l' (table_step (benches_of z) t l (step_of a))
       → Links (benches_of z) (refused r t' l') (answer_to z (run_of t l) x)
   unfolding answer_to
   does_links x a e r t' l' p = rw e (promise_links (benches_of z) t l s (step_of a) r t' l' p)
@@ -73,7 +76,7 @@ run_more z s None m k s' e u = rw e (ap (λ (w : Run). run_from (benches_of z) w
 
 -- the first `count` lines, which stand before the place, are answered; played on from the tables, the others give the rest of the answers.
 -- answers₀ held what was there before
-pub record Playing (z : Size) (text answers₀ : List ℕ) (t l : List (List ℕ)) (answers : List ℕ) (at count : ℕ) : Type 0 where
+pub record Playing (z : Size) (text answers₀ : List ℕ) (t : List Bench) (l : List (List Entry)) (answers : List ℕ) (at count : ℕ) : Type 0 where
   pub sound : Sound (benches_of z) t l
   pub within : at ≤ length text
   pub few : count ≤ at
@@ -83,10 +86,9 @@ pub record Playing (z : Size) (text answers₀ : List ℕ) (t l : List (List ℕ
   pub run : run_after z text ≡ run_from (benches_of z) (run_of t l) (steps_of (read_text (benches_of z) (drop at text)))
 
 module _ (z : Size) (text answers₀ : List ℕ) where
-  pub playing_none : (t l : List (List ℕ)) → t ≡ empty_tables.benches → l ≡ empty_tables.logs
-      → length text ≤ length answers₀ → Playing z text answers₀ t l answers₀ 0 0
-  playing_none t l et el h =
-      rw (et, el)
+  pub playing_none : (x : Tables) → x ≡ empty_tables → length text ≤ length answers₀ → Playing z text answers₀ x.benches x.logs answers₀ 0 0
+  playing_none x e h =
+      rw e
       (record {
         sound = empty_sound (benches_of z) (benches_fit z);
         within = omega arith;
@@ -97,7 +99,7 @@ module _ (z : Size) (text answers₀ : List ℕ) where
         run = rw empty_run refl;
       })
 
-  module _ (t l : List (List ℕ)) (answers : List ℕ) (at count : ℕ) (p : Playing z text answers₀ t l answers at count) where
+  module _ (t : List Bench) (l : List (List Entry)) (answers : List ℕ) (at count : ℕ) (p : Playing z text answers₀ t l answers at count) where
     -- the next line has room for its answer
     pub playing_room : (x : Option Step) (next : ℕ) → read_line_of (benches_of z) text at ≡ Some (x, next) → count < length answers
     playing_room x next e = let d = read_line_reads (benches_of z) text at x next e in omega (arith, p.few, p.long, p.room)
@@ -106,7 +108,7 @@ module _ (z : Size) (text answers₀ : List ℕ) where
     pub playing_less : (x : Option Step) (next : ℕ) → read_line_of (benches_of z) text at ≡ Some (x, next) → length text - next < length text - at
     playing_less x next e = let d = read_line_reads (benches_of z) text at x next e in omega arith
 
-    pub playing_more : (x : Option Step) (next : ℕ) → read_line_of (benches_of z) text at ≡ Some (x, next) → (r : ℕ) (t' l' : List (List ℕ))
+    pub playing_more : (x : Option Step) (next : ℕ) → read_line_of (benches_of z) text at ≡ Some (x, next) → (r : ℕ) (t' : List Bench) (l' : List (List Entry))
         → Links (benches_of z) (refused r t' l') (answer_to z (run_of t l) x) → Playing z text answers₀ t' l' (set answers count r) next (count + 1)
     playing_more x next e r t' l' k =
         let d = read_line_reads (benches_of z) text at x next e in

@@ -1,4 +1,6 @@
 -- The report from its parts: the lines of the answers, and what stands behind them. Assumes nothing.
+use Rattle.bench.specs.declared.Bench.{Bench}
+use Rattle.bench.specs.declared.Entry.{Entry}
 use Prim.Native.Nat.{ℕ, ◌+◌, ◌*◌, ◌≤◌, ◌<◌}
 use native.Mathlib.Omega.{arith}
 use mathlib.Core.List.{List, ◌++◌}
@@ -38,7 +40,7 @@ pub record Made (z : Size) (text answers rest : List ℕ) (m : ℕ) : Type 0 whe
 pub benches_room : (z : Size) (n : ℕ) → 67 * places + 36 ≤ n → 67 * benches_of z ≤ n
 benches_room z n h = omega (arith, benches_fit z)
 
-totals_room : (z : Size) {first out : Writer} (t : List (List ℕ)) → first.at ≡ 0 → Writes first (row_lines t (benches_of z)) out → 67 * places + 36 ≤ length first.room.now
+totals_room : (z : Size) {first out : Writer} (t : List Bench) → first.at ≡ 0 → Writes first (row_lines t (benches_of z)) out → 67 * places + 36 ≤ length first.room.now
     → out.at + 36 ≤ length out.room.now
 totals_room z t e p h = omega (arith, p.stored.place, stored_length p.stored, rows_short t (benches_of z), benches_fit z)
 
@@ -47,11 +49,11 @@ pub room_front : (k m : ℕ) {n : ℕ} → k + m ≤ n → k ≤ n
 room_front k m h = omega arith
 
 -- a text has no more lines than bytes
-pub lines_few : {z : Size} {text answers : List ℕ} {t l : List (List ℕ)} {n : ℕ} → Played z text t l n answers → length text ≤ longest → length (take n answers) ≤ longest
+pub lines_few : {z : Size} {text answers : List ℕ} {t : List Bench} {l : List (List Entry)} {n : ℕ} → Played z text t l n answers → length text ≤ longest → length (take n answers) ≤ longest
 lines_few {answers = answers} {n = n} p h = omega (arith, p.few, length-take-le n answers p.inside)
 
 -- what stands behind them is written from the tables and the answers after the text was played: n lines, r of them refused
-pub made : {z : Size} {text answers : List ℕ} {t l : List (List ℕ)} {n r : ℕ} {first out end : Writer} → Played z text t l n answers
+pub made : {z : Size} {text answers : List ℕ} {t : List Bench} {l : List (List Entry)} {n r : ℕ} {first out end : Writer} → Played z text t l n answers
     → first.at ≡ 0 → Writes first (row_lines t (benches_of z)) out → r ≡ refused_in (take n answers) → Puts out (totals n r) end
     → 67 * places + 36 ≤ length first.room.now → Made z text (take n answers) end.room.now end.at
 unfolding run_report_of run_report_for

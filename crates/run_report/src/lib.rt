@@ -20,7 +20,7 @@ use kinds::{PLACES, Refusal, Size};
 use playing::play;
 use reports::LONGEST;
 use room::Writer;
-use tables::{LOG, ROW};
+use tables::Tables;
 use totals::refused_in;
 
 // Room for every report of a text that is not too long (`room_enough` of crate `reports`).
@@ -38,17 +38,16 @@ pub fn report(text: &[u8], room: &mut [u8]) -> Result<usize, Refusal>
     if LONGEST < text.len() {
         return Err(Refusal::LongText);
     }
-    let mut benches = [[0u32; ROW]; PLACES];
-    let mut logs = [[0u32; LOG]; PLACES];
+    let mut tables = Tables::new();
     let mut kept = [0u8; LONGEST];
-    let lines = play(text, &mut benches, &mut logs, &mut kept, Size::Sixteen);
+    let lines = play(text, &mut tables, &mut kept, Size::Sixteen);
     let answers = &kept[..lines];
     let mut rest = [0u8; REST];
     let mut end = Writer {
         room: &mut rest,
         at: 0,
     };
-    write_benches(&mut end, &benches, Size::Sixteen);
+    write_benches(&mut end, &tables.benches, Size::Sixteen);
     end.put_totals(lines as u32, refused_in(answers));
     if !room_for(room, answers, end.at) {
         return Err(Refusal::ShortRoom);

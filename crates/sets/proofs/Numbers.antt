@@ -7,6 +7,9 @@ use borrow.Author.Tests.{le-leb, not-false}
 use Rattle.common.specs.Benches.{is_bench}
 use Rattle.common.specs.Places.{place_of}
 use Rattle.common.proofs.Benches.{bench_in}
+use Rattle.kinds.specs.Sizes.{benches_of, places}
+use Rattle.kinds.specs.declared.Size.{Size}
+use Rattle.kinds.proofs.Sizes.{benches_fit}
 
 module _ (n : ℕ) where
   pub bench_first : (f : ℕ) → is_bench n f ≡ true → 1 ≤ f
@@ -24,6 +27,10 @@ module _ (n : ℕ) where
 pub bench_wider : (n m : ℕ) → n ≤ m → (f : ℕ) → is_bench n f ≡ true → is_bench m f ≡ true
 unfolding is_bench
 bench_wider n m h f e = let i = bench_in n f e in rw (le-leb 1 f i.0, le-leb f m (omega (arith, i.1))) refl
+
+-- and a bench of a run has one
+pub bench_placed : (z : Size) (f : ℕ) → is_bench (benches_of z) f ≡ true → f - 1 < places
+bench_placed z f e = omega (arith, bench_place (benches_of z) f e, benches_fit z)
 
 -- ---- the place, as the code finds it
 

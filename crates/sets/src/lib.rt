@@ -2,12 +2,34 @@
 
 #![tactic(auto)]
 
-ghost use Rattle.std.specs.Prelude.{◌≡◌, ◌%◌, ◌^◌, ◌<◌, ◌≤◌, ltb};
+ghost use Rattle.std.specs.Prelude.{◌≡◌, ◌-◌, ◌%◌, ◌^◌, ◌<◌, ◌≤◌, true, false, ltb, MatchResult};
 ghost use Rattle.common.specs.Benches.{is_bench};
 ghost use Rattle.common.specs.Places.{has, place_of};
 ghost use Rattle.kinds.specs.Sizes.{benches_of, places};
 
-use kinds::{BenchNo, PLACES, Size};
+use kinds::{BenchNo, PLACES, Refusal, Size};
+
+// A place of the tables: bench k + 1 stands at k.
+#[derive(Clone, Copy)]
+pub struct TablePlace {
+    pub index: usize,
+    pub ghost in_tables: { index < places },
+}
+
+impl TablePlace {
+    // The place of a bench of a run.
+    #[tactic(auto, using(crate::proofs::Numbers::bench_first, crate::proofs::Numbers::bench_placed))]
+    pub fn of(bench: BenchNo, size: Size) -> Result<TablePlace, Refusal>
+        ensures { MatchResult result (λ k. (is_bench (benches_of size) bench.0 ≡ true) × (k.index ≡ bench.0 - 1)) (λ r. (is_bench (benches_of size) bench.0 ≡ false) × (r ≡ Refusal.NoSuchBench)) }
+    {
+        if !is_bench(bench, size) {
+            return Err(Refusal::NoSuchBench);
+        }
+        Ok(TablePlace {
+            index: (bench.0 - 1) as usize,
+        })
+    }
+}
 
 // How many benches, or senders, there are.
 #[tactic(auto, unfolding(kinds::specs::Sizes::benches_of))]

@@ -1,8 +1,9 @@
 -- What is proved of the two tables, for any N benches that they have room for: they are the published rounds, so decisions agree, without further failures
 -- two rounds more are enough, and no log is ever full; what a step promises settles everything; a turn is local. Each statement stands below its words, the
 -- proofs are in the other files. Assumes nothing.
+use Rattle.bench.specs.declared.Entry.{Entry}
 use mathlib.Core.Path.{◌≡◌, refl, sym, ap, ◌∙◌}
-use mathlib.Core.List.{List, [], ◌++◌}
+use mathlib.Core.List.{List, ◌++◌}
 use Prim.Native.Nat.{ℕ, suc, ◌+◌, ◌*◌, ◌≤◌, ◌<◌}
 use lib.ListN.{get_or}
 use Rattle.std.specs.Prelude.{Result, Ok, Err}
@@ -47,12 +48,12 @@ pub empty_run : run_of empty_tables.benches empty_tables.logs ≡ new_run
 empty_run = empty.empty_run
 
 -- One step on sound tables: the answer is the published one, the tables after it stand for the published run, and they are sound again.
-pub step_links : (N : ℕ) (t l : List (List ℕ)) → Sound N t l → (a : Step) → Links N (table_step N t l a) (step N (run_of t l) a)
+pub step_links : (N : ℕ) (t : List Bench) (l : List (List Entry)) → Sound N t l → (a : Step) → Links N (table_step N t l a) (step N (run_of t l) a)
 step_links = links
 
 -- The same of an answer and two tables that are promised to be those of a step.
-pub promise_links : (N : ℕ) (t l : List (List ℕ)) → Sound N t l → (a : Step)
-    → (r : ℕ) (t' l' : List (List ℕ)) → Acts r t' l' (table_step N t l a)
+pub promise_links : (N : ℕ) (t : List Bench) (l : List (List Entry)) → Sound N t l → (a : Step)
+    → (r : ℕ) (t' : List Bench) (l' : List (List Entry)) → Acts r t' l' (table_step N t l a)
     → Links N (record { answer = r; tables = record { benches = t'; logs = l' } }) (step N (run_of t l) a)
 promise_links N t l s a r t' l' p = rw (p.answer, p.benches, p.logs) (step_links N t l s a)
 
@@ -108,27 +109,27 @@ pub log_suffices : (N : ℕ) → N ≤ places → (l : List Step) (k : ℕ) → 
 log_suffices N fits l = sent_fits N (tables_from N empty_tables l).benches (tables_from N empty_tables l).logs (tables_meet N fits l).stays
 
 -- Whatever tables are handed in, no step answers 12, nor any number above it.
-pub answer_upto_11 : (N : ℕ) (t l : List (List ℕ)) (a : Step) → (table_step N t l a).answer ≤ 11
+pub answer_upto_11 : (N : ℕ) (t : List Bench) (l : List (List Entry)) (a : Step) → (table_step N t l a).answer ≤ 11
 answer_upto_11 = refusing.answer_upto_11
 
 -- ---- a promise settles everything
 
 -- Two answers with their tables that are both those of one step are equal: the number, and every word of both tables.
-pub acts_settle : (e : Act) (r r' : ℕ) (t t' l l' : List (List ℕ)) → Acts r t l e → Acts r' t' l' e → (r ≡ r') × (t ≡ t') × (l ≡ l')
+pub acts_settle : (e : Act) (r r' : ℕ) (t t' : List Bench) (l l' : List (List Entry)) → Acts r t l e → Acts r' t' l' e → (r ≡ r') × (t ≡ t') × (l ≡ l')
 acts_settle e r r' t t' l l' p q = (p.answer ∙ sym q.answer, p.benches ∙ sym q.benches, p.logs ∙ sym q.logs)
 
 -- ---- locality of turn
 
 -- A turn depends on the bench's own row and on the log entries that it has taken, in all tables that can be handed in.
-pub turn_local : (N : ℕ) (t l t' l' : List (List ℕ)) (k : ℕ) → get_or t k [] ≡ get_or t' k []
-    → ((j : ℕ) → j < N → KeepsRounds (logs l j) (logs l' j) (get_or (rows places t k).taken j 0))
-    → turn_of N (rows places t k) (heard_of N l (rows places t k)) ≡ turn_of N (rows places t' k) (heard_of N l' (rows places t' k))
-turn_local N t l t' l' k e same = rw (← e, heard_local N (rows places t k) l l' same) refl
+pub turn_local : (N : ℕ) (t : List Bench) (l : List (List Entry)) (t' : List Bench) (l' : List (List Entry)) (k : ℕ) → rows t k ≡ rows t' k
+    → ((j : ℕ) → j < N → KeepsRounds (logs l j) (logs l' j) (get_or (rows t k).taken j 0))
+    → turn_of N (rows t k) (heard_of N l (rows t k)) ≡ turn_of N (rows t' k) (heard_of N l' (rows t' k))
+turn_local N t l t' l' k e same = rw (← e, heard_local N (rows t k) l l' same) refl
 
 -- A turn is answered by the number of what the bench by value answers.
-pub turn_number : (N : ℕ) (t l : List (List ℕ)) (k : ℕ) → (turn_at N t l k).answer ≡ answer_of (turn_of N (rows places t k) (heard_of N l (rows places t k))).answer
+pub turn_number : (N : ℕ) (t : List Bench) (l : List (List Entry)) (k : ℕ) → (turn_at N t l k).answer ≡ answer_of (turn_of N (rows t k) (heard_of N l (rows t k))).answer
 unfolding turn_at turn_on turn_by
-turn_number N t l k = said _ (turn_of N (rows places t k) (heard_of N l (rows places t k))).answer
+turn_number N t l k = said _ (turn_of N (rows t k) (heard_of N l (rows t k))).answer
   where
     said : (b : Bench) (a : Result Turn Refusal) → (turn_by t l k b a).answer ≡ answer_of a
     said b (Ok (Decided v m)) = refl

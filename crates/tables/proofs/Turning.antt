@@ -1,4 +1,6 @@
 -- A turn on the tables is the published turn. Assumes nothing.
+use Rattle.bench.specs.declared.Entry.{Entry}
+use Rattle.bench.specs.Entries.{entry}
 use mathlib.Core.Path.{◌≡◌, refl, sym, ◌∙◌}
 use mathlib.Core.Bool.{Bool, true, false, cond, not}
 use mathlib.Core.List.{List, ◌∷◌}
@@ -22,7 +24,7 @@ use Rattle.common.specs.Places.{has}
 use Rattle.bench.specs.Changes.{choosing, in_round}
 use Rattle.bench.specs.Turns.{awaits_of, forbids_of, least, gather_of, refuses, go_on_of, concludes, turn_of}
 use Rattle.bench.proofs.Answers.{next_within}
-use Rattle.kinds.specs.Sizes.{places, depth}
+use Rattle.kinds.specs.Sizes.{depth}
 use Rattle.kinds.specs.Refusals.{number_of}
 use Rattle.kinds.specs.declared.Refusal.{Refusal}
 use Rattle.kinds.specs.declared.Refusal.TheVariants.{WrongState, MemberAwaited}
@@ -38,10 +40,10 @@ use Rattle.tables.proofs.Counts.{room_for, reached, sent_fits}
 use Rattle.tables.proofs.Change.{Linked}
 use Rattle.tables.proofs.Checks.{asks, bars, all_hold_lem, behind}
 
-module _ (N : ℕ) (t l : List (List ℕ)) (s : Sound N t l) (k : ℕ) (hk : k < N) where
+module _ (N : ℕ) (t : List Bench) (l : List (List Entry)) (s : Sound N t l) (k : ℕ) (hk : k < N) where
   -- the bench, what it has heard, and the bench of the run
   abbrev b : Bench
-  b = rows places t k
+  b = rows t k
 
   abbrev h : Heard
   h = heard_of N l b
@@ -86,10 +88,10 @@ module _ (N : ℕ) (t l : List (List ℕ)) (s : Sound N t l) (k : ℕ) (hk : k <
     unfolding run_of run_by
     zs = see_is N s.fits (logs l) k b (s.ok.own k) (s.ok.own_out k) first h hs
 
-    worlds : (j : ℕ) → j < N → has h.set j ≡ true → get_or h.worlds j 0 < 2 ^ N
+    worlds : (j : ℕ) → j < N → has h.set j ≡ true → (entry h.entries j).world < 2 ^ N
     worlds j hj e =
         let c : hears b j ≡ true = sym (hs.who j ∙ rw (lt-ltb j N hj) refl) ∙ e in
-        rw (hs.what j hj c).1 (s.ok.worlds j (b.round.0 - 1) (omega (arith, leb-true b.round.0 (get_or b.taken j 0) c, s.ok.line k j, first)))
+        rw (hs.what j hj c) (s.ok.worlds j (b.round.0 - 1) (omega (arith, leb-true b.round.0 (get_or b.taken j 0) c, s.ok.line k j, first)))
 
     settled_eq : settled N (suc k) x ≡ not (awaits_of N b h)
     unfolding settled run_of run_by bench_of
@@ -103,7 +105,7 @@ module _ (N : ℕ) (t l : List (List ℕ)) (s : Sound N t l) (k : ℕ) (hk : k <
     unfolding next_world run_of run_by bench_of
     world_eq = heard_is N b h (see (suc k) x) zs ((s.ok.fit k).running st).2
 
-    value_eq : least b.value.0 (bit_and b.world h.set) h.values N ≡ next_value N (suc k) x
+    value_eq : least b.value.0 (bit_and b.world h.set) h.entries N ≡ next_value N (suc k) x
     unfolding next_value run_of run_by bench_of
     value_eq = least_is N b h (see (suc k) x) zs
 

@@ -1,19 +1,10 @@
 -- `report` meets its contract: by the parts that stand behind `put_totals`, and by which of the three ways it then goes. Assumes nothing.
 use mathlib.Core.Bool.{not}
 use mathlib.Core.Path.{refl, ap}
-use Rattle.tables.specs.Steps.{empty_tables}
 use Rattle.spelling.proofs.Stores.{room_yes, room_not}
 use Rattle.run_report.proofs.Reports.{made, benches_room, lines_few, parts_short, parts_done}
 use borrow.Author.Rules.{rules}
 use Rattle.run_report.proofs.report.Goals as goal
-
-pub play-lines-requires-clause-benches_value : goal.play-lines-requires-clause-benches_value
-unfolding empty_tables
-play-lines-requires-clause-benches_value c = refl
-
-pub play-lines-requires-clause-logs_value : goal.play-lines-requires-clause-logs_value
-unfolding empty_tables
-play-lines-requires-clause-logs_value c = refl
 
 pub write_benches-requires : goal.write_benches-requires
 write_benches-requires c = search (benches_room, rules)
