@@ -3,10 +3,10 @@ use Rattle.run_report.proofs.AnswerLines.{writing_room, writing_more, writing_al
 use Rattle.run_report.proofs.answers.store_answers.Goals as goal
 
 pub store_answer_line-requires : goal.store_answer_line-requires
-store_answer_line-requires c = search writing_room
+store_answer_line-requires c = writing_room _ _ _ _ c.loop-i.invariant c.loop-i-test.true (rw c.as_slice-answer-items.ensures.value c.requires)
 
 pub loop-i-preserved : goal.loop-i-preserved
 loop-i-preserved c = search writing_more
 
 pub returns : goal.returns
-returns c = search writing_all
+returns c = rw (← c.as_slice-answer-items.ensures.value) (writing_all _ _ _ _ c.loop-i.invariant c.loop-i-test.false)
