@@ -17,33 +17,33 @@ impl Bench {
         if self.state != RUNNING {
             return self.refused(Refusal::WrongState);
         }
-        if self.awaits(h, size) {
+        if self.awaits(&h, size) {
             return self.refused(Refusal::MemberAwaited);
         }
-        if !self.forbids(h, size) {
+        if !self.forbids(&h, size) {
             return self.concluded();
         }
-        self.go_on(h, size)
+        self.go_on(&h, size)
     }
 
     // The first visit: whether some member is awaited.
-    fn awaits(self, h: Heard, size: Size) -> bool
-        ensures { result ≡ awaits_of (benches_of size) self h }
+    fn awaits(&self, h: &Heard, size: Size) -> bool
+        ensures { result ≡ awaits_of (benches_of size) self.now h.now }
     {
         (0..benches_of(size) as usize).any(|k| self.awaited_at(h, k))
     }
 
     // The second visit: whether some member forbids a decision.
-    fn forbids(self, h: Heard, size: Size) -> bool
-        ensures { result ≡ forbids_of (benches_of size) self h }
+    fn forbids(&self, h: &Heard, size: Size) -> bool
+        ensures { result ≡ forbids_of (benches_of size) self.now h.now }
     {
         (0..benches_of(size) as usize).any(|k| self.forbids_at(h, k))
     }
 
     // The third visit: the least value heard from a member, and the members heard.
     #[tactic(auto, using(crate::proofs::Visits::least_heard, crate::proofs::Visits::least_other), unfolding(crate::specs::Turns::least, crate::specs::Turns::gather_of))]
-    fn gather(self, h: Heard, size: Size) -> Entry
-        ensures { result ≡ gather_of (benches_of size) self h }
+    fn gather(&self, h: &Heard, size: Size) -> Entry
+        ensures { result ≡ gather_of (benches_of size) self.now h.now }
     {
         let both = self.world & h.set;
         let mut value = self.value.0;
@@ -61,8 +61,8 @@ impl Bench {
 
     // Whether place k is a member that is awaited: not heard, no OUT has come, no failure is noticed.
     #[tactic(auto, unfolding(crate::specs::Turns::awaited_at))]
-    fn awaited_at(self, h: Heard, k: usize) -> bool
-        ensures { result ≡ awaited_at self h k }
+    fn awaited_at(&self, h: &Heard, k: usize) -> bool
+        ensures { result ≡ awaited_at self.now h.now k }
     {
         has(self.world, k) && !has(h.set, k) && !has(self.outs, k) && !has(self.noticed, k)
     }
@@ -70,9 +70,9 @@ impl Bench {
     // Whether place k is a member that forbids a decision: heard with another value or with a world not within the bench's own, or
     // neither heard nor excused.
     #[tactic(auto, unfolding(crate::specs::Turns::forbids_at, crate::specs::Turns::forbids_by, crate::specs::Turns::differs))]
-    fn forbids_at(self, h: Heard, k: usize) -> bool
+    fn forbids_at(&self, h: &Heard, k: usize) -> bool
         requires { k < places }
-        ensures { result ≡ forbids_at self h k }
+        ensures { result ≡ forbids_at self.now h.now k }
     {
         if !has(self.world, k) {
             return false;
@@ -109,8 +109,8 @@ impl Bench {
 
     // The bench is in the next round, with the least value heard and the members heard, and has that round's message to send.
     #[tactic(auto, unfolding(crate::specs::Turns::go_on_of, crate::specs::Changes::in_round))]
-    fn go_on(self, h: Heard, size: Size) -> Turned
-        ensures { result ≡ go_on_of (benches_of size) self h }
+    fn go_on(self, h: &Heard, size: Size) -> Turned
+        ensures { result ≡ go_on_of (benches_of size) self h.now }
     {
         let Entry { value, world } = self.gather(h, size);
         let round = RoundNo(round_after(self.round.0));

@@ -6,4 +6,4 @@ use Rattle.bench.proofs.Bench.awaits.Goals as goal
 
 pub returns : goal.returns
 unfolding awaits_of
-returns c = any_some (awaited_at c.args.self c.args.h) _ _ c.benches_of.ensures.0 _ _ _ c.any.ensures.ran (λ x b q k. search rules)
+returns c = any_some (awaited_at c.args.self.now c.args.h.now) _ _ c.benches_of.ensures.0 _ _ _ c.any.ensures.ran (λ x b q k. search rules)
