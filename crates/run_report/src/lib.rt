@@ -14,7 +14,7 @@ mod benches; // benches.rt: the benches' lines
 mod playing; // playing.rt: a text played
 mod totals; // totals.rt: the lines not answered 0 counted
 
-use answers::{room_for, write_answers};
+use answers::{Answers, room_for, write_answers};
 use benches::write_benches;
 use kinds::{PLACES, Refusal, Size};
 use playing::play;
@@ -39,21 +39,20 @@ pub fn report(text: &[u8], room: &mut [u8]) -> Result<usize, Refusal>
         return Err(Refusal::LongText);
     }
     let mut tables = Tables::new();
-    let mut kept = [0u8; LONGEST];
-    let lines = play(text, &mut tables, &mut kept, Size::Sixteen);
-    let answers = &kept[..lines];
+    let mut answers = Answers::new();
+    play(text, &mut tables, &mut answers, Size::Sixteen);
     let mut rest = [0u8; REST];
     let mut end = Writer {
         room: &mut rest,
         at: 0,
     };
     write_benches(&mut end, &tables.benches, Size::Sixteen);
-    end.put_totals(lines as u32, refused_in(answers));
-    if !room_for(room, answers, end.at) {
+    end.put_totals(answers.len() as u32, refused_in(&answers));
+    if !room_for(room, &answers, end.at) {
         return Err(Refusal::ShortRoom);
     }
     let mut out = Writer { room, at: 0 };
-    write_answers(&mut out, answers);
+    write_answers(&mut out, &answers);
     out.put_bytes(end.written());
     Ok(out.at)
 }
