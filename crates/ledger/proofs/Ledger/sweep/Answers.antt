@@ -23,7 +23,7 @@ returns-in_err-may_sweep c =
     let s = c.in_ok-i.ensures.ok in
     let x = c.args.self.now in
     let whole : length x.room ≡ room_words = omega arith in
-    rw (p.1, p.2) (tells_refusal _ x _ _ (c.in_err-may_sweep.ensures.number _ (book_of x) _ _ s.0 (knows _ x _ _ s.0 s.1 (row_is c.row_at-row.result) c.row_at-row.ensures) (held_fewer x.room (held_by x) whole)))
+    rw (p.1, p.2) (tells_refusal _ x _ _ (c.in_err-may_sweep.ensures.number _ (book_of x) _ _ s.0 (knows _ x _ _ s.0 s.1 (row_is c.in_ok-i.row) s.3) (held_fewer x.room (held_by x) whole)))
 
 pub returns : goal.returns
 unfolding book_of
@@ -31,5 +31,5 @@ returns c =
     let s = c.in_ok-i.ensures.ok in
     let x = c.args.self.now in
     let whole : length x.room ≡ room_words = omega arith in
-    sweep_done _ x _ _ s.0 s.1 (row_is c.row_at-row.result) c.row_at-row.ensures whole c.in_ok-may_sweep.ensures.ok.1 _ _ (rw c.open_slot.ensures refl)
-    (c.in_ok-may_sweep.ensures.number _ (book_of x) _ _ s.0 (knows _ x _ _ s.0 s.1 (row_is c.row_at-row.result) c.row_at-row.ensures) (held_fewer x.room (held_by x) whole))
+    sweep_done _ x _ _ s.0 s.1 (row_is c.in_ok-i.row) s.3 whole c.in_ok-may_sweep.ensures.ok.1 _ _ (rw c.open_slot.ensures refl)
+    (c.in_ok-may_sweep.ensures.number _ (book_of x) _ _ s.0 (knows _ x _ _ s.0 s.1 (row_is c.in_ok-i.row) s.3) (held_fewer x.room (held_by x) whole))
