@@ -56,8 +56,9 @@ pub fn tag_at(text: &[u8], at: usize) -> Found<u32>
 }
 
 // A key at a place, and the number behind it.
+#[inline(always)]
 #[tactic(auto, unfolding(spelling::specs::Fields::field_at))]
-pub fn field_at(text: &[u8], at: usize, key: &[u8]) -> Found<u32>
+pub fn field_at<const N: usize>(text: &[u8], at: usize, key: &[u8; N]) -> Found<u32>
     ensures { result ≡ field_at key.now text.now at }
 {
     number_at(text, bytes::behind(text, at, key)?)
