@@ -1,6 +1,6 @@
 -- How all that stands behind the answers' lines is written. Assumes nothing.
-use Prim.Native.Nat.{ℕ, ◌+◌, ◌≤◌}
-use mathlib.Core.List.{List, [], ◌∷◌, ◌++◌}
+use Prim.Native.Nat.{ℕ}
+use mathlib.Core.List.{◌++◌}
 use lib.ListN.{length}
 use Rattle.kinds.specs.declared.Size.{Size}
 use Rattle.kinds.specs.Sizes.{benches_of}

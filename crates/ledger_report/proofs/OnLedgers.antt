@@ -1,13 +1,13 @@
 -- A line of a script played on a ledger keeps its promise: a step by the promises of the ledger's own steps, a malformed line by changing nothing. Assumes nothing.
 use mathlib.Core.Path.{◌≡◌, refl, ap, sym, ◌∙◌}
-use Prim.Native.Nat.{ℕ, zero, suc, ◌≤◌, min}
-use mathlib.Core.Bool.{true, false, and-false}
+use Prim.Native.Nat.{ℕ, ◌≤◌, min}
+use mathlib.Core.Bool.{false, and-false}
 use mathlib.Core.List.{List, [], ◌++◌, append_assoc}
 use native.Mathlib.Omega.{arith}
 use lib.ListN.{length, take, drop, length-take, take-append-drop}
 use lib.Seq.{drop-append-le}
 use lib.Dec.{eqb}
-use borrow.Author.Tests.{ne_eqb, eqb-false}
+use borrow.Author.Tests.{ne_eqb}
 use Rattle.std.specs.Prelude.{Option, Some, None, Result, Ok, Err}
 use Rattle.std.specs.Result.{result_and, IsOkAnd, MatchResult}
 use Rattle.common.proofs.Tests.{clash}

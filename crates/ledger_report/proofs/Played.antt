@@ -5,7 +5,7 @@ use native.Mathlib.Nat.{add-zero, zero-add}
 use mathlib.Core.List.{List, [], ◌∷◌, ◌++◌, append_assoc, append-nil}
 use mathlib.Core.Path.{◌≡◌, refl, sym, ap, ◌∙◌}
 use lib.ListN.{length, take, drop, length-append}
-use lib.Seq.{take_at, length-take-le}
+use lib.Seq.{take_at}
 use Rattle.std.specs.Prelude.{Option, Some, None, Result, Ok, Err}
 use Rattle.std.specs.Result.{is_err}
 use Rattle.std.specs.Int.{from_bool}
@@ -17,7 +17,7 @@ use Rattle.kinds.specs.declared.Size.{Size}
 use Rattle.kinds.specs.Sizes.{benches_of}
 use Rattle.book.specs.Book.{most_held, Book, new_book, answer}
 use Rattle.spelling.specs.Stored.{Stored}
-use Rattle.spelling.specs.Answers.{totals, refusal_of}
+use Rattle.spelling.specs.Answers.{refusal_of}
 use Rattle.spelling.specs.declared.LedgerStep.{LedgerStep}
 use Rattle.spelling.specs.LedgerReading.{ledger_said_of, read_script, read_script_line_of}
 use Rattle.spelling.specs.LedgerSteps.{step_is}
@@ -31,7 +31,7 @@ use Rattle.ledger.specs.declared.Ledger.{Ledger}
 use Rattle.ledger.specs.Seen.{held_by, book_of}
 use Rattle.ledger.specs.Promises.{laid, Begins}
 use Rattle.ledger.proofs.Made.{Made, made_new, made_step}
-use Rattle.reports.specs.LedgerReport.{ledger_answer_to, book_after, ledger_line, ledger_lines, sender_lines, cursor_line, ledger_refused, last_lines, ledger_report_for, ledger_report_of}
+use Rattle.reports.specs.LedgerReport.{ledger_answer_to, book_after, ledger_line, ledger_lines, ledger_refused, last_lines, ledger_report_for, ledger_report_of}
 use Rattle.reports.proofs.LedgerLengths.{line_for}
 use Rattle.ledger_report.specs.Playing.{handed_of, count_of, LineTells, Plays}
 
