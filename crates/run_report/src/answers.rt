@@ -43,16 +43,16 @@ fn answer_length(line: u32, answer: AnswerNo) -> usize
 }
 
 // Writes the lines of the answers.
-pub(crate) fn store_answers(out: &mut Writer, answers: &Answers)
+pub(crate) fn write_answers(out: &mut Writer, answers: &Answers)
     requires { Holds out.old (answer_lines 1 answers.now.items) }
     ensures { Writes out.old (answer_lines 1 answers.now.items) out.new }
 {
     for (i, &answer) in answers.as_slice().iter().enumerate() {
-        store_answer_line(out, i as u32 + 1, answer);
+        write_answer_line(out, i as u32 + 1, answer);
     }
 }
 
-fn store_answer_line(out: &mut Writer, line: u32, answer: AnswerNo)
+fn write_answer_line(out: &mut Writer, line: u32, answer: AnswerNo)
     requires { Holds out.old (answer_line line answer) }
     ensures { Writes out.old (answer_line line answer) out.new }
 {

@@ -15,17 +15,17 @@ use sets::benches_of;
 use tables::Benches;
 
 // Writes the lines of the benches. None is longer than 67 bytes.
-pub(crate) fn store_benches(out: &mut Writer, benches: &Benches, size: Size)
+pub(crate) fn write_benches(out: &mut Writer, benches: &Benches, size: Size)
     requires { out.old.at + 67 * benches_of size ≤ length out.old.room.now }
     ensures { Writes out.old (row_lines benches.now (benches_of size)) out.new }
 {
     for b in 1..=benches_of(size) {
-        store_bench(out, benches, BenchNo(b));
+        write_bench(out, benches, BenchNo(b));
     }
 }
 
 // A fresh bench has no line.
-fn store_bench(out: &mut Writer, benches: &Benches, bench: BenchNo)
+fn write_bench(out: &mut Writer, benches: &Benches, bench: BenchNo)
     requires { out.old.at + 67 ≤ length out.old.room.now }
     ensures { Writes out.old (row_line benches.now bench.0) out.new }
 {

@@ -14,8 +14,8 @@ mod benches; // benches.rt: the benches' lines
 mod playing; // playing.rt: a text played
 mod totals; // totals.rt: the lines not answered 0 counted
 
-use answers::{Answers, room_for, store_answers};
-use benches::store_benches;
+use answers::{Answers, room_for, write_answers};
+use benches::write_benches;
 use kinds::{PLACES, Refusal, Size};
 use playing::play;
 use reports::LONGEST;
@@ -46,13 +46,13 @@ pub fn report(text: &[u8], room: &mut [u8]) -> Result<usize, Refusal>
         room: &mut rest,
         at: 0,
     };
-    store_benches(&mut end, &tables.benches, Size::Sixteen);
+    write_benches(&mut end, &tables.benches, Size::Sixteen);
     end.put_totals(answers.len() as u32, refused_in(&answers));
     if !room_for(room, &answers, end.at) {
         return Err(Refusal::ShortRoom);
     }
     let mut out = Writer { room, at: 0 };
-    store_answers(&mut out, &answers);
+    write_answers(&mut out, &answers);
     out.put_bytes(end.written());
     Ok(out.at)
 }

@@ -1,11 +1,11 @@
--- `store_bench`: a fresh bench has no line; of any other the parts are put one after another, and the room holds the longest.
+-- `write_bench`: a fresh bench has no line; of any other the parts are put one after another, and the room holds the longest.
 use Rattle.std.proofs.Common.{arith}
 use Rattle.reads.specs.Decisions.{decision_is}
 use Rattle.tables.specs.Runs.{state_of}
 use Rattle.reports.proofs.RunLines.{spelled_short}
 use Rattle.room.proofs.Writers.{put_then, put_last}
 use Rattle.run_report.proofs.BenchLines.{fresh_written, row_is}
-use Rattle.run_report.proofs.benches.store_bench.Goals as goal
+use Rattle.run_report.proofs.benches.write_bench.Goals as goal
 
 pub returns-then-state-eq-FRESH : goal.returns-then-state-eq-FRESH
 returns-then-state-eq-FRESH c = search fresh_written
