@@ -1,5 +1,5 @@
-// One bench's store of received sweeps, handed out slot by slot. The caller lends it, and each step works in place and says why where it
-// refuses. specs/Book.antt of `book` says what each step does, specs/Seen.antt which book a ledger is, specs/Promises.antt what is promised.
+// One bench's store of received sweeps, handed out slot by slot: `Ledger`, and its steps in place. A step that is refused says why, and changes
+// nothing. specs/Book.antt of `book` says what each step does, specs/Seen.antt which book a ledger is, specs/Promises.antt what is promised.
 
 #![tactic(auto)]
 
