@@ -1,13 +1,12 @@
--- One law for each way through a turn, and to the next round; a turn by cases. Assumes nothing.
-use mathlib.Core.Path.{◌≡◌, sym, ◌∙◌}
-use mathlib.Core.Bool.{Bool, true, false, not}
+-- The next round, and a turn by cases. Assumes nothing.
+use mathlib.Core.Path.{◌≡◌}
 use Prim.Native.Nat.{ℕ, suc, ◌%◌, ◌<◌, ◌≤◌}
 use native.Mathlib.Nat.{mod-eq_of_lt, mod-lt}
 use native.Mathlib.Omega.{arith}
 use lib.Dec.{eqb}
-use borrow.Author.Tests.{not-true, not-false, eq-eqb, ne_eqb}
 use Rattle.common.proofs.Tests.{cond_ind}
 use Rattle.kinds.specs.Sizes.{depth}
+use Rattle.kinds.specs.declared.Refusal.TheVariants.{WrongState, MemberAwaited}
 use Rattle.bench.specs.Turns.{awaits_of, forbids_of, refuses, concludes, next_round, go_on_of, turn_of}
 use Rattle.bench.specs.declared.Bench.{Bench}
 use Rattle.bench.specs.declared.Heard.{Heard}
@@ -22,27 +21,8 @@ pub next_fits : (r : ℕ) → (1 ≤ next_round r) × (next_round r ≤ depth)
 unfolding next_round
 next_fits r = let h : r % depth < depth = mod-lt r (omega arith) in (omega arith, omega arith)
 
-module _ (n : ℕ) (b : Bench) (h : Heard) (r : Turned) where
-  pub turn_idle : (b.state ≡ 1 → ⊥) → r ≡ refuses b 3 → r ≡ turn_of n b h
-  unfolding turn_of
-  turn_idle ne e = rw (ne_eqb b.state 1 ne) e
-
-  module _ (runs : b.state ≡ 1) (a : Bool) (is_a : a ≡ awaits_of n b h) where
-    pub turn_awaits : a ≡ true → r ≡ refuses b 11 → r ≡ turn_of n b h
-    unfolding turn_of
-    turn_awaits t e = rw (eq-eqb b.state 1 runs, sym is_a ∙ t) e
-
-    module _ (settled : a ≡ false) (f : Bool) (is_f : f ≡ forbids_of n b h) where
-      pub turn_decides : not f ≡ true → r ≡ concludes b → r ≡ turn_of n b h
-      unfolding turn_of
-      turn_decides t e = rw (eq-eqb b.state 1 runs, sym is_a ∙ settled, sym is_f ∙ not-true f t) e
-
-      pub turn_goes : not f ≡ false → r ≡ go_on_of n b h → r ≡ turn_of n b h
-      unfolding turn_of
-      turn_goes t e = rw (eq-eqb b.state 1 runs, sym is_a ∙ settled, sym is_f ∙ not-false f t) e
-
 -- what holds of each way holds of a turn
-pub turn_ind : (n : ℕ) (b : Bench) (h : Heard) (P : Turned → Type 0) → P (refuses b 3) → P (refuses b 11) → P (concludes b) → P (go_on_of n b h) → P (turn_of n b h)
+pub turn_ind : (n : ℕ) (b : Bench) (h : Heard) (P : Turned → Type 0) → P (refuses b WrongState) → P (refuses b MemberAwaited) → P (concludes b) → P (go_on_of n b h) → P (turn_of n b h)
 unfolding turn_of
 turn_ind n b h P p₃ p₁₁ d g =
     cond_ind P (eqb b.state 1) _ _

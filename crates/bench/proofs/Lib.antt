@@ -1,3 +1,2 @@
-pub mod Numbers
 pub mod Visits
 pub mod Answers

@@ -1,59 +1,51 @@
-// What a message and a notice make of a bench, by value: the form that document 01 names. The tables write the one word that changes instead; that
-// both ways are one thing is `arrive_by_value` and `notice_by_value` of crate `tables`.
+// What a message and a notice make of a bench: in place, as a run's tables have it, and by value.
 
-ghost use Rattle.std.specs.Prelude.{◌≡◌, ◌<◌};
-ghost use Rattle.kinds.specs.Sizes.{benches_of, places};
+ghost use Rattle.std.specs.Prelude.{◌≡◌};
+ghost use Rattle.kinds.specs.Sizes.{benches_of};
 ghost use Rattle.bench.specs.Changes.{take_of, take_from, notice_of, notice_from};
 
 use crate::Bench;
 use kinds::{BenchNo, Message, Size};
-use sets::{is_bench, only};
+use sets::{TablePlace, only};
 
 impl Bench {
     // The bench takes a message of bench `from`; its own too. It stays as it was where there is no such bench.
-    pub fn take(self, from: BenchNo, m: Message, size: Size) -> Bench
+    #[tactic(auto, unfolding(crate::specs::Changes::take_from))]
+    pub fn take(mut self, from: BenchNo, m: Message, size: Size) -> Bench
         ensures { result ≡ take_from (benches_of size) self from.0 m }
     {
-        if is_bench(from, size) {
-            return self.take_at((from.0 - 1) as usize, m);
+        if let Ok(k) = TablePlace::of(from, size) {
+            self.take_at(k, m);
         }
         self
     }
 
     // The bench learns that bench `from` has failed. It stays as it was where there is no such bench.
-    pub fn notice(self, from: BenchNo, size: Size) -> Bench
+    #[tactic(auto, unfolding(crate::specs::Changes::notice_from))]
+    pub fn notice(mut self, from: BenchNo, size: Size) -> Bench
         ensures { result ≡ notice_from (benches_of size) self from.0 }
     {
-        if is_bench(from, size) {
-            return self.notice_at((from.0 - 1) as usize);
+        if let Ok(k) = TablePlace::of(from, size) {
+            self.notice_at(k);
         }
         self
     }
 
     // Lines are in order and without gaps, so of a round message its round is the count.
-    fn take_at(self, k: usize, m: Message) -> Bench
-        requires { k < places }
-        ensures { result ≡ take_of self k m }
+    #[tactic(auto, unfolding(crate::specs::Changes::take_of, crate::specs::Changes::taken_of, crate::specs::Changes::out_of), using(common::proofs::Places::only_small))]
+    pub fn take_at(&mut self, k: TablePlace, m: Message)
+        ensures { self.new ≡ take_of self.old k.index m }
     {
-        let mut b = self;
         match m {
-            Message::Round(rm) => {
-                b.taken[k] = rm.round.0;
-                b
-            }
-            Message::Out => {
-                b.outs = self.outs | only(k);
-                b
-            }
+            Message::Round(said) => self.taken[k.index] = said.round.0,
+            Message::Out => self.outs |= only(k.index),
         }
     }
 
-    fn notice_at(self, k: usize) -> Bench
-        requires { k < places }
-        ensures { result ≡ notice_of self k }
+    #[tactic(auto, unfolding(crate::specs::Changes::notice_of), using(common::proofs::Places::only_small))]
+    pub fn notice_at(&mut self, k: TablePlace)
+        ensures { self.new ≡ notice_of self.old k.index }
     {
-        let mut b = self;
-        b.noticed = self.noticed | only(k);
-        b
+        self.noticed |= only(k.index);
     }
 }

@@ -3,12 +3,16 @@
 
 #![tactic(auto)]
 
+ghost use Rattle.std.specs.Prelude.{◌≡◌};
+ghost use Rattle.bench.specs.Turns.{message_of};
+
 mod changes;
 mod turns;
 
-use kinds::{AnswerNo, Message, PLACES, RoundNo, SlotNo};
+use kinds::{Message, PLACES, Refusal, RoundNo, SlotNo};
 
 // The states of a bench. A number above FAILED is read as failed.
+// Words and no enum or bool, here and in `silent` and `chose`: a step promises what it does to every table of words that can be handed in (`Stepped` of crate `rounds`).
 pub const FRESH: u32 = 0;
 
 pub const RUNNING: u32 = 1;
@@ -39,37 +43,47 @@ pub struct Bench {
     pub taken: [u32; PLACES],
 }
 
-// What a bench has heard of its round: from whom, with which value and world.
+// What a bench says in a round.
 #[derive(Clone, Copy)]
-pub struct Heard {
-    pub set: u32,
-    pub values: [u32; PLACES],
-    pub worlds: [u32; PLACES],
-}
-
-// The least value heard, and who was heard.
-#[derive(Clone, Copy)]
-pub struct Gathered {
+pub struct Entry {
     pub value: SlotNo,
     pub world: u32,
 }
 
+// What stands where nothing was said.
+pub const NO_ENTRY: Entry = Entry {
+    value: SlotNo(0),
+    world: 0,
+};
+
+// What a bench has heard of its round: from whom, and what each of them said.
 #[derive(Clone, Copy)]
-pub enum Answer {
-    Decided(SlotNo, Message),
-    Went(Message),
-    Refused(AnswerNo),
+pub struct Heard {
+    pub set: u32,
+    pub entries: [Entry; PLACES],
 }
 
+// What a turn came to: a decision and OUT to send, or the next round's message to send.
+#[derive(Clone, Copy)]
+pub enum Turn {
+    Decided(SlotNo, Message),
+    Went(Message),
+}
+
+impl Turn {
+    // What the bench has to send.
+    pub fn message(self) -> Message
+        ensures { result ≡ message_of self }
+    {
+        match self {
+            Turn::Decided(_, m) | Turn::Went(m) => m,
+        }
+    }
+}
+
+// A turn hands the bench back also where it refuses, then as it was.
 #[derive(Clone, Copy)]
 pub struct Turned {
     pub bench: Bench,
-    pub answer: Answer,
-}
-
-// What waits on a line.
-#[derive(Clone, Copy)]
-pub enum Waiting {
-    Next(Message),
-    Nothing,
+    pub answer: Result<Turn, Refusal>,
 }

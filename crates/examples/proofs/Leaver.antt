@@ -1,4 +1,4 @@
--- Why W8 says r from 1 on, and r + 2: in the case of specs/Leaver.antt nobody fails and round 3 is sent, so neither r = 0 nor r + 1 would do. By computation.
+-- Why docs/PAUSE.md says r from 1 on, and r + 2: in the case of specs/Leaver.antt nobody fails and round 3 is sent, so neither r = 0 nor r + 1 would do. By computation.
 -- Assumes nothing.
 use mathlib.Core.Path.{◌≡◌, refl}
 use mathlib.Core.Bool.{true}

@@ -1,5 +1,5 @@
--- The remark behind theorem 5.4 of document 000, as steps: nobody fails, bench 3 leaves after round 1, and round 3 is sent. This file is to be believed: it is
--- the case by which W8's r cannot be 0. A world is written in binary: 0b011 is benches 1 and 2.
+-- An early leaver, as docs/PAUSE.md tells it: nobody fails, bench 3 leaves after round 1, and round 3 is sent. This file is to be believed: it is the case by
+-- which the r of docs/PAUSE.md cannot be 0. A world is written in binary: 0b011 is benches 1 and 2.
 use Rattle.std.specs.Prelude.{List, [], ◌∷◌}
 use Rattle.published.specs.Rounds.{Step, start, leave, turn, arrive}
 

@@ -1,35 +1,29 @@
--- How the cursor's line, and all that stands behind the answers' lines, is stored. Assumes nothing.
-use Prim.Native.Nat.{ℕ, ◌+◌, ◌≤◌}
-use mathlib.Core.List.{List, [], ◌∷◌, ◌++◌}
-use lib.ListN.{length, get_or}
-use Rattle.spelling.specs.Numbers.{ascii, digits}
-use Rattle.spelling.specs.Stored.{Stored}
-use Rattle.spelling.proofs.Stores.{room_front, room_after_lem, stored_then}
-use Rattle.spelling.proofs.Puts.{Put, put_then, put_last}
-use Rattle.ledger.specs.Seen.{next_at, held_at}
-use Rattle.reports.specs.LedgerReport.{sender_lines, cursor_line}
+-- How all that stands behind the answers' lines is written. Assumes nothing.
+use Prim.Native.Nat.{ℕ}
+use mathlib.Core.List.{◌++◌}
+use lib.ListN.{length}
+use Rattle.kinds.specs.declared.Size.{Size}
+use Rattle.kinds.specs.Sizes.{benches_of}
+use Rattle.book.specs.Book.{Book}
 use Rattle.spelling.specs.Answers.{totals}
-use Rattle.ledger_report.specs.Parts.{seen_rows, seen_lines}
+use Rattle.room.specs.declared.writer.Writer.{Writer}
+use Rattle.room.specs.Writes.{Writes, Puts, Holds}
+use Rattle.room.proofs.Writers.{holds_front, holds_behind, writes_then, put_last}
+use Rattle.reports.specs.LedgerReport.{sender_lines, cursor_line, last_lines}
 
-pub cursor_stored : (n h : ℕ) {l l₁ l₂ l₃ : List ℕ} {at n₁ n₂ n₃ : ℕ} → Put l at (ascii "next=" ++ digits n) n₁ l₁ → Put l₁ n₁ (ascii " held=" ++ digits h) n₂ l₂
-    → Put l₂ n₂ (10 ∷ []) n₃ l₃ → at + length (cursor_line n h) ≤ length l → Stored l at (cursor_line n h) n₃ l₃
-unfolding cursor_line
-cursor_stored n h p q r z = put_then (ascii "next=" ++ digits n) _ p (put_then (ascii " held=" ++ digits h) _ q (put_last _ r)) z
+module _ (size : Size) (b : Book) (n r : ℕ) (out : Writer) (h : Holds out (last_lines size b n r)) where
+  pub senders_room : Holds out (sender_lines (benches_of size) b.rows)
+  unfolding last_lines
+  senders_room = holds_front out (sender_lines (benches_of size) b.rows) (cursor_line b.next (length b.held) ++ totals n r) h
 
-module _ (m : ℕ) (cursor : List ℕ) (rows : List (List ℕ)) (n r : ℕ) (l : List ℕ) (at : ℕ) (h : at + length (seen_lines m cursor rows n r) ≤ length l) where
-  pub senders_room : at + length (sender_lines m (seen_rows cursor rows)) ≤ length l
-  unfolding seen_lines
-  senders_room = room_front at (sender_lines m (seen_rows cursor rows)) (cursor_line (get_or cursor next_at 0) (get_or cursor held_at 0) ++ totals n r) h
+  module _ {out₁ : Writer} (p : Writes out (sender_lines (benches_of size) b.rows) out₁) where
+    both_room : Holds out₁ (cursor_line b.next (length b.held) ++ totals n r)
+    unfolding last_lines
+    both_room = holds_behind p (cursor_line b.next (length b.held) ++ totals n r) h
 
-  module _ {l₁ : List ℕ} {n₁ : ℕ} (p : Stored l at (sender_lines m (seen_rows cursor rows)) n₁ l₁) where
-    both_room : n₁ + length (cursor_line (get_or cursor next_at 0) (get_or cursor held_at 0) ++ totals n r) ≤ length l₁
-    unfolding seen_lines
-    both_room = room_after_lem (cursor_line (get_or cursor next_at 0) (get_or cursor held_at 0) ++ totals n r) p h
+    pub cursor_room : Holds out₁ (cursor_line b.next (length b.held))
+    cursor_room = holds_front out₁ (cursor_line b.next (length b.held)) (totals n r) both_room
 
-    pub cursor_room : n₁ + length (cursor_line (get_or cursor next_at 0) (get_or cursor held_at 0)) ≤ length l₁
-    cursor_room = room_front n₁ (cursor_line (get_or cursor next_at 0) (get_or cursor held_at 0)) (totals n r) both_room
-
-    module _ {l₂ : List ℕ} {n₂ : ℕ} (q : Stored l₁ n₁ (cursor_line (get_or cursor next_at 0) (get_or cursor held_at 0)) n₂ l₂) where
-      pub end_stored : {l₃ : List ℕ} {n₃ : ℕ} → Put l₂ n₂ (totals n r) n₃ l₃ → Stored l at (seen_lines m cursor rows n r) n₃ l₃
-      unfolding seen_lines
-      end_stored s = stored_then p (stored_then q (put_last (totals n r) s (room_after_lem (totals n r) q both_room)))
+    pub end_written : {out₂ out₃ : Writer} → Writes out₁ (cursor_line b.next (length b.held)) out₂ → Puts out₂ (totals n r) out₃ → Writes out (last_lines size b n r) out₃
+    unfolding last_lines
+    end_written q s = writes_then p (writes_then q (put_last (totals n r) s (holds_behind q (totals n r) both_room)))

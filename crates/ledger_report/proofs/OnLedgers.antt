@@ -1,80 +1,90 @@
 -- A line of a script played on a ledger keeps its promise: a step by the promises of the ledger's own steps, a malformed line by changing nothing. Assumes nothing.
 use mathlib.Core.Path.{◌≡◌, refl, ap, sym, ◌∙◌}
-use Prim.Native.Nat.{ℕ, zero, suc, ◌≤◌, min}
-use mathlib.Core.Bool.{true, false, and-false}
+use Prim.Native.Nat.{ℕ, ◌≤◌, min}
+use mathlib.Core.Bool.{false, and-false}
 use mathlib.Core.List.{List, [], ◌++◌, append_assoc}
 use native.Mathlib.Omega.{arith}
 use lib.ListN.{length, take, drop, length-take, take-append-drop}
 use lib.Seq.{drop-append-le}
-use lib.Dec.{eqb, eqb-suc-zero}
+use lib.Dec.{eqb}
+use borrow.Author.Tests.{ne_eqb}
+use Rattle.std.specs.Prelude.{Option, Some, None, Result, Ok, Err}
+use Rattle.std.specs.Result.{result_and, IsOkAnd, MatchResult}
 use Rattle.common.proofs.Tests.{clash}
 use Rattle.kinds.specs.declared.BenchNo.{BenchNo}
 use Rattle.kinds.specs.declared.SlotNo.{SlotNo}
-use Rattle.ledger.specs.declared.HandOut.{HandOut}
-use Rattle.ledger.specs.declared.HandOut.TheVariants.{Written, Refused}
+use Rattle.kinds.specs.declared.Refusal.{Refusal}
+use Rattle.kinds.specs.declared.Refusal.TheVariants as refusal
+use Rattle.kinds.specs.Refusals.{number_of, answer_of}
 use Rattle.book.specs.Book as book
-use Rattle.ledger.specs.Seen.{room_words, Lent, lending, book_of}
-use Rattle.ledger.specs.Promises.{Tells, Hands, number_of, hand_out_of, laid}
+use Rattle.ledger.specs.declared.Ledger.{Ledger}
+use Rattle.ledger.specs.Seen.{room_words, book_of}
+use Rattle.ledger.specs.Promises.{Tells, Hands, laid}
 use Rattle.book.proofs.Outcomes.{step_ind, hand_out_ind}
 use Rattle.kinds.specs.declared.Size.{Size}
 use Rattle.kinds.specs.Sizes.{benches_of}
-use Rattle.spelling.specs.declared.LedgerSaid.{LedgerSaid}
-use Rattle.spelling.specs.declared.LedgerSaid.TheVariants.{Does, Malformed}
 use Rattle.spelling.specs.declared.LedgerStep.{LedgerStep}
 use Rattle.spelling.specs.declared.LedgerStep.TheVariants as script
-use Rattle.ledger_report.specs.declared.steps.Played.{Played}
 use Rattle.spelling.specs.LedgerSteps.{step_is, is_hand_out}
 use Rattle.reports.specs.LedgerReport.{ledger_answer_to, hands_out}
-use Rattle.ledger_report.specs.Playing.{LineTells, Plays}
+use Rattle.reports.proofs.Refusals.{never_done}
+use Rattle.ledger_report.specs.Playing.{handed_of, count_of, LineTells, Plays}
+
+-- ---- a malformed line
+
+pub malformed_plays : (size : Size) (x : Ledger) (out : List ℕ) → Plays size x out None (Err refusal.Malformed) x out
+unfolding laid LineTells ledger_answer_to hands_out book.answer
+malformed_plays size x out = record { tells = (refl, refl); handed_is = refl; count_is = refl; out_is = refl }
 
 -- ---- steps that write no tags
 
-no_tags : (n : ℕ) (b : book.Book) (s : book.Step) → (book.after n b s).tags ≡ [] → (book.step n b s).tags ≡ []
-unfolding book.answer
-no_tags n b s e = step_ind n b s (λ a. a.tags ≡ []) (λ k f. refl) (λ h. e)
-
-plays_told : (size : Size) (x : Lent) (out : List ℕ) (s : LedgerStep) (k : ℕ) (r : Played) (x' : Lent) → is_hand_out s ≡ false → (book.after (benches_of size) (book_of x) (step_is s)).tags ≡ []
-    → Tells (benches_of size) x (step_is s) k x' → r ≡ record { number = k; count = 0; handed = false } → Plays size x out (Does s) r x' out
-unfolding laid LineTells ledger_answer_to hands_out
-plays_told size x out s k r x' silent e a is =
-    let q = no_tags (benches_of size) (book_of x) (step_is s) e in
-    rw is record { tells = a; handed_is = rw (silent, and-false (eqb k 0)); count_is = rw q; out_is = rw q }
-
-module _ (size : Size) (x : Lent) (out : List ℕ) (d : LedgerStep) (k : ℕ) (r : Played) (told : r ≡ record { number = k; count = 0; handed = false }) where
+module _ (size : Size) (x : Ledger) (out : List ℕ) where
   abbrev n : ℕ
   n = benches_of size
 
-  pub play_join : (s : BenchNo) (f : SlotNo) (cursor' : List ℕ) (rows' : List (List ℕ)) → d ≡ script.Join s f
-      → ((w : List ℕ) → Tells n (lending x.cursor x.rows w) (book.join s.0 f.0) k (lending cursor' rows' w)) → Plays size x out (Does d) r (lending cursor' rows' x.room) out
+  no_tags : (s : book.Step) → (book.after n (book_of x) s).tags ≡ [] → (book.step n (book_of x) s).tags ≡ []
+  unfolding book.answer
+  no_tags s e = step_ind n (book_of x) s (λ a. a.tags ≡ []) (λ k f. refl) (λ h. e)
+
+  answer_kept : (r : Result (Unit {0}) Refusal) → answer_of {A = Option ℕ} (result_and r (Ok None)) ≡ answer_of r
+  answer_kept (Ok u) = refl
+  answer_kept (Err e) = refl
+
+  none_handed : (r : Result (Unit {0}) Refusal) → handed_of (result_and r (Ok None)) ≡ false
+  none_handed (Ok u) = refl
+  none_handed (Err e) = refl
+
+  none_counted : (r : Result (Unit {0}) Refusal) → count_of (result_and r (Ok None)) ≡ 0
+  none_counted (Ok u) = refl
+  none_counted (Err e) = refl
+
+  step_plays : (s : LedgerStep) (r : Result (Unit {0}) Refusal) (x' : Ledger) → is_hand_out s ≡ false → (book.after n (book_of x) (step_is s)).tags ≡ []
+      → Tells n x (step_is s) (answer_of r) x' → Plays size x out (Some s) (result_and r (Ok None)) x' out
+  unfolding laid LineTells ledger_answer_to hands_out
+  step_plays s r x' silent e t =
+      let q = no_tags (step_is s) e in
+      record {
+        tells = rw (answer_kept r) t;
+        handed_is = none_handed r ∙ sym (rw (silent, and-false (eqb (answer_of {A = Option ℕ} (result_and r (Ok None))) 0)) refl);
+        count_is = none_counted r ∙ sym (rw q refl);
+        out_is = rw q refl;
+      }
+
+  pub join_plays : (r : Result (Unit {0}) Refusal) (x' : Ledger) (s : BenchNo) (f : SlotNo) → Tells n x (book.join s.0 f.0) (answer_of r) x' → Plays size x out (Some (script.Join s f)) (result_and r (Ok None)) x' out
   unfolding step_is is_hand_out book.after book.answer
-  play_join s f cursor' rows' e a = rw e (plays_told size x out (script.Join s f) k r _ refl refl (a x.room) told)
+  join_plays r x' s f = step_plays (script.Join s f) r x' refl refl
 
-  pub play_close : (s : BenchNo) (rows' : List (List ℕ)) → d ≡ script.Close s
-      → ((w : List ℕ) → Tells n (lending x.cursor x.rows w) (book.close s.0) k (lending x.cursor rows' w)) → Plays size x out (Does d) r (lending x.cursor rows' x.room) out
+  pub close_plays : (r : Result (Unit {0}) Refusal) (x' : Ledger) (s : BenchNo) → Tells n x (book.close s.0) (answer_of r) x' → Plays size x out (Some (script.Close s)) (result_and r (Ok None)) x' out
   unfolding step_is is_hand_out book.after book.answer
-  play_close s rows' e a = rw e (plays_told size x out (script.Close s) k r _ refl refl (a x.room) told)
+  close_plays r x' s = step_plays (script.Close s) r x' refl refl
 
-  pub play_sweep : (s : BenchNo) (tag : ℕ) (x' : Lent) → d ≡ script.Sweep s tag → Tells n x (book.sweep s.0 tag) k x' → Plays size x out (Does d) r x' out
+  pub sweep_plays : (r : Result (Unit {0}) Refusal) (x' : Ledger) (s : BenchNo) (tag : ℕ) → Tells n x (book.sweep s.0 tag) (answer_of r) x' → Plays size x out (Some (script.Sweep s tag)) (result_and r (Ok None)) x' out
   unfolding step_is is_hand_out book.after book.answer
-  play_sweep s tag x' e a = rw e (plays_told size x out (script.Sweep s tag) k r x' refl refl a told)
+  sweep_plays r x' s tag = step_plays (script.Sweep s tag) r x' refl refl
 
-  pub play_end : (s : BenchNo) (slot : SlotNo) (x' : Lent) → d ≡ script.End s slot → Tells n x (book.end s.0 slot.0) k x' → Plays size x out (Does d) r x' out
+  pub end_plays : (r : Result (Unit {0}) Refusal) (x' : Ledger) (s : BenchNo) (slot : SlotNo) → Tells n x (book.end s.0 slot.0) (answer_of r) x' → Plays size x out (Some (script.End s slot)) (result_and r (Ok None)) x' out
   unfolding step_is is_hand_out book.after book.answer
-  play_end s slot x' e a = rw e (plays_told size x out (script.End s slot) k r x' refl refl a told)
-
-pub play_hand : (size : Size) (x : Lent) (out : List ℕ) (d : LedgerStep) (r : Played) (x' : Lent) (out' : List ℕ) (places : ℕ) → d ≡ script.HandOut places → Plays size x out (Does (script.HandOut places)) r x' out'
-    → Plays size x out (Does d) r x' out'
-play_hand size x out d r x' out' places e a = rw e a
-
--- ---- a line
-
-pub play_does : (size : Size) (x : Lent) (out : List ℕ) (line : LedgerSaid) (r : Played) (x' : Lent) (out' : List ℕ) (s : LedgerStep) → line ≡ Does s → Plays size x out (Does s) r x' out'
-    → Plays size x out line r x' out'
-play_does size x out line r x' out' s e a = rw e a
-
-pub play_malformed : (size : Size) (x : Lent) (out : List ℕ) (line : LedgerSaid) (r : Played) → line ≡ Malformed → r ≡ record { number = 20; count = 0; handed = false } → Plays size x out line r x out
-unfolding laid LineTells ledger_answer_to hands_out book.answer
-play_malformed size x out line r e is = rw (e, is) (record { tells = (refl, refl); handed_is = refl; count_is = refl; out_is = refl })
+  end_plays r x' s slot = step_plays (script.End s slot) r x' refl refl
 
 -- ---- a hand-out into the first places of the buffer
 
@@ -87,52 +97,51 @@ refused_tags : (n : ℕ) (b : book.Book) (k : ℕ) → eqb (book.step n b (book.
 unfolding book.answer
 refused_tags n b k = hand_out_ind n b (λ a. eqb a.number 0 ≡ false → a.tags ≡ []) k (λ j f z. refl) (λ u m g z. clash (cc))
 
--- what an answer says of number and count
-written_is : (k c count : ℕ) → hand_out_of k c ≡ Written count → c ≡ count
-unfolding hand_out_of
-written_is zero c count e = cc
-written_is (suc k) c count e = clash (cc)
-
-refused_is : (k c j : ℕ) → hand_out_of k c ≡ Refused j → (j ≡ k) × (eqb j 0 ≡ false)
-unfolding hand_out_of
-refused_is zero c j e = clash (cc)
-refused_is (suc k) c j e = let q : j ≡ suc k = cc in (q, rw q (eqb-suc-zero k))
-
 laid_part : (ts out : List ℕ) (n : ℕ) → length ts ≤ n → n ≤ length out → laid ts (take n out) ++ drop n out ≡ laid ts out
 unfolding laid
 laid_part ts out n h g =
     append_assoc ts (drop (length ts) (take n out)) (drop n out)
     ∙ ap (λ (x : List ℕ). ts ++ x) (sym (drop-append-le (length ts) (take n out) (drop n out) (omega (arith, length-take n out))) ∙ ap (drop (length ts)) (take-append-drop n out))
 
-module _ (size : Size) (x : Lent) (out : List ℕ) (places : ℕ) (room : length out ≡ room_words) (m : ℕ) (is : m ≡ min places room_words) (h : HandOut) (x' : Lent) (out₁ : List ℕ) (a : Hands (benches_of size) x (take m out) h x' out₁) where
+module _ (size : Size) (x : Ledger) (out : List ℕ) (places : ℕ) (room : length out ≡ room_words) (m : ℕ) (is : m ≡ min places room_words)
+    (x' : Ledger) (out₁ : List ℕ) where
+  abbrev hand : book.Step
+  hand = book.hand_out m
+
   -- the part that is lent has m places
   part : length (take m out) ≡ m
   part = omega (arith, length-take m out)
 
-  answer_of : h ≡ hand_out_of (book.step (benches_of size) (book_of x) (book.hand_out m)).number (length (book.step (benches_of size) (book_of x) (book.hand_out m)).tags)
-  answer_of = let q = a.answer_is in rw part at q
-
-  told : Tells (benches_of size) x (book.hand_out m) (number_of h) x'
-  told = let q = a.tells in rw part at q
-
-  written : out₁ ++ drop m out ≡ laid (book.step (benches_of size) (book_of x) (book.hand_out m)).tags out
-  written =
-      let q = a.out_is in let p : out₁ ≡ laid (book.step (benches_of size) (book_of x) (book.hand_out m)).tags (take m out) = rw part at q in
+  written : out₁ ≡ laid (book.step (benches_of size) (book_of x) (book.hand_out m)).tags (take m out) → out₁ ++ drop m out ≡ laid (book.step (benches_of size) (book_of x) (book.hand_out m)).tags out
+  written p =
       ap (λ (y : List ℕ). y ++ drop m out) p ∙ laid_part (book.step (benches_of size) (book_of x) (book.hand_out m)).tags out m (tags_fit (benches_of size) (book_of x) m) (omega arith)
 
-  pub hand_written : (count : ℕ) → h ≡ Written count → Plays size x out (Does (script.HandOut places)) (record { number = 0; count = count; handed = true }) x' (out₁ ++ drop m out)
-  unfolding step_is is_hand_out number_of LineTells ledger_answer_to hands_out
-  hand_written count e =
-      let q = written_is (book.step (benches_of size) (book_of x) (book.hand_out m)).number (length (book.step (benches_of size) (book_of x) (book.hand_out m)).tags) count (sym answer_of ∙ e) in
-      let t = told in
-      let t' = rw e at t in
-      record { tells = rw (← is) t'; handed_is = refl; count_is = rw (← is) (sym q); out_is = rw (← is) written }
+  done_plays : (k : ℕ) → Hands (benches_of size) x (take m out) (Ok k) x' out₁ → Plays size x out (Some (script.HandOut places)) (Ok (Some k)) x' (out₁ ++ drop m out)
+  unfolding step_is is_hand_out LineTells ledger_answer_to hands_out
+  done_plays k a =
+      let t = rw part at a.tells in
+      let c = rw part at a.count_is in
+      let o = rw part at a.out_is in
+      record { tells = rw (← is) t; handed_is = refl; count_is = rw (← is) c; out_is = rw (← is) (written o) }
 
-  pub hand_refused : (k : ℕ) → h ≡ Refused k → Plays size x out (Does (script.HandOut places)) (record { number = k; count = 0; handed = false }) x' (out₁ ++ drop m out)
-  unfolding step_is is_hand_out number_of LineTells ledger_answer_to hands_out
-  hand_refused k e =
-      let q = refused_is (book.step (benches_of size) (book_of x) (book.hand_out m)).number (length (book.step (benches_of size) (book_of x) (book.hand_out m)).tags) k (sym answer_of ∙ e) in
-      let z = refused_tags (benches_of size) (book_of x) m (rw (← q.0) q.1) in
-      let t = told in
-      let t' = rw e at t in
-      record { tells = rw (← is) t'; handed_is = rw q.1; count_is = rw (← is, z); out_is = rw (← is) written }
+  refused_plays : (e : Refusal) → Hands (benches_of size) x (take m out) (Err e) x' out₁ → Plays size x out (Some (script.HandOut places)) (Err e) x' (out₁ ++ drop m out)
+  unfolding step_is is_hand_out LineTells ledger_answer_to hands_out
+  refused_plays e a =
+      let t = rw part at a.tells in
+      let o = rw part at a.out_is in
+      let number = t.number_is in
+      let no : eqb (number_of e) 0 ≡ false = ne_eqb (number_of e) 0 (never_done e) in
+      let z = refused_tags (benches_of size) (book_of x) m (rw (← number) no) in
+      record { tells = rw (← is) t; handed_is = rw no refl; count_is = rw (← is, z) refl; out_is = rw (← is) (written o) }
+
+  pub hand_out_plays : (h : Result ℕ Refusal) (r : Result (Option ℕ) Refusal) → Hands (benches_of size) x (take m out) h x' out₁
+      → MatchResult h (λ k. r ≡ Ok (Some k)) (λ e. r ≡ Err e) → Plays size x out (Some (script.HandOut places)) r x' (out₁ ++ drop m out)
+  hand_out_plays (Ok k) r a e = rw e (done_plays k a)
+  hand_out_plays (Err d) r a e = rw e (refused_plays d a)
+
+-- the count of a hand-out that is done is mapped into `Some`
+pub mapped : (h : Result ℕ Refusal) (r : Result (Option ℕ) Refusal) (P : ℕ → Option ℕ → Type 0) → ((k : ℕ) (y : Option ℕ) → P k y → y ≡ Some k)
+    → MatchResult h (λ k. IsOkAnd r (P k)) (λ e. r ≡ Err e) → MatchResult h (λ k. r ≡ Ok (Some k)) (λ e. r ≡ Err e)
+mapped (Ok k) (Ok y) P f p = ap Ok (f k y p)
+mapped (Ok k) (Err e) P f p = absurd p
+mapped (Err e) r P f p = p

@@ -1,41 +1,30 @@
 // What stands behind the answers' lines: the senders' lines, the cursor's and the totals'.
-ghost use Rattle.std.specs.Prelude.{◌+◌, ◌≤◌, length};
-ghost use Rattle.kinds.specs.Sizes.{benches_of};
-ghost use Rattle.spelling.specs.Stored.{Stored};
-ghost use Rattle.reports.specs.LedgerReport.{cursor_line};
-ghost use Rattle.spelling.specs.Answers.{totals};
-ghost use Rattle.ledger_report.specs.Parts.{seen_lines};
+ghost use Rattle.std.specs.Prelude.{◌≡◌, length};
+ghost use Rattle.room.specs.Writes.{Holds, Writes};
+ghost use Rattle.reports.specs.LedgerReport.{cursor_line, last_lines};
+ghost use Rattle.ledger.specs.Seen.{book_of};
 
-use crate::sender_lines::store_senders;
+use crate::sender_lines::write_senders;
 use kinds::Size;
-use ledger::{CursorWords, HELD, NEXT, RowWords};
-use room::bytes::put_bytes;
-use room::decimal::put_field;
-use room::totals::put_totals;
+use ledger::{Cursor, Ledger};
+use room::Writer;
 
-pub(crate) fn store_end(
-    room: &mut [u8],
-    at: usize,
-    cursor: &CursorWords,
-    rows: &RowWords,
-    lines: u32,
-    refused: u32,
-    size: Size,
-) -> usize
-    requires { at + length (seen_lines (benches_of size) cursor.now rows.now lines refused) ≤ length room.old }
-    ensures { Stored room.old at (seen_lines (benches_of size) cursor.now rows.now lines refused) result room.new }
+pub(crate) fn write_end(out: &mut Writer, ledger: &Ledger, lines: u32, refused: u32, size: Size)
+    requires held_value { ledger.now.cursor.held ≡ length (book_of ledger.now).held }
+    requires lines_in_bounds { Holds out.old (last_lines size (book_of ledger.now) lines refused) }
+    ensures { Writes out.old (last_lines size (book_of ledger.now) lines refused) out.new }
 {
-    let a = store_senders(room, at, cursor, rows, size);
-    let b = store_cursor(room, a, cursor[NEXT], cursor[HELD]);
-    put_totals(room, b, lines, refused)
+    write_senders(out, ledger, size);
+    write_cursor(out, &ledger.cursor);
+    out.put_totals(lines, refused);
 }
 
 // `next=1 held=0`: the next slot to hand out, and the number of sweeps held.
-fn store_cursor(room: &mut [u8], at: usize, next: u32, held: u32) -> usize
-    requires { at + length (cursor_line next held) ≤ length room.old }
-    ensures { Stored room.old at (cursor_line next held) result room.new }
+fn write_cursor(out: &mut Writer, cursor: &Cursor)
+    requires { Holds out.old (cursor_line cursor.now.next.0 cursor.now.held) }
+    ensures { Writes out.old (cursor_line cursor.now.next.0 cursor.now.held) out.new }
 {
-    let a = put_field(room, at, b"next=", next);
-    let b = put_field(room, a, b" held=", held);
-    put_bytes(room, b, b"\n")
+    out.put_field(b"next=", cursor.next.0);
+    out.put_field(b" held=", cursor.held);
+    out.put_bytes(b"\n");
 }

@@ -4,45 +4,32 @@ ghost use Rattle.spelling.specs.Stored.{Stored};
 ghost use Rattle.reports.specs.LedgerReport.{ledger_report_of};
 ghost use Rattle.reports.specs.Reported.{longest};
 
-use crate::answers::store_ledger_line;
-use crate::ending::store_end;
+use crate::answers::write_answer;
+use crate::ending::write_end;
 use crate::steps::play_line;
-use kinds::{PLACES, Size, SlotNo};
-use ledger::{CURSOR_LENGTH, ROOM, ROW_LENGTH};
+use kinds::{Size, SlotNo};
+use ledger::{Ledger, ROOM};
 use ledger_text::read_line;
-use room::totals::refusal;
-use spelling::LedgerRead;
+use room::Writer;
 
-// Plays the script and stores its report at the room's front. Answers the place behind it.
+// Plays the script and writes its report at the room's front. Answers the place behind it.
 pub(crate) fn play_text(text: &[u8], room: &mut [u8], size: Size) -> usize
     requires { (length text.now ≤ longest) × (length (ledger_report_of size text.now) ≤ length room.old) }
     ensures { Stored room.old 0 (ledger_report_of size text.now) result room.new }
 {
-    let mut cursor = [0u32; CURSOR_LENGTH];
-    let mut rows = [[0u32; ROW_LENGTH]; PLACES];
-    let mut words = [0u64; ROOM];
+    let mut ledger = Ledger::new(SlotNo(0));
     let mut tags = [0u32; ROOM];
-    ledger::clear(&mut cursor, &mut rows, SlotNo(0));
     let mut at = 0;
-    let mut next = 0;
+    let mut out = Writer { room, at: 0 };
     let mut lines = 0;
     let mut refused = 0;
-    loop {
-        let LedgerRead::Next(line, behind) = read_line(text, at) else {
-            return store_end(room, next, &cursor, &rows, lines, refused, size);
-        };
+    while let Some((line, behind)) = read_line(text, at) {
         at = behind;
         lines += 1;
-        let played = play_line(&mut cursor, &mut rows, &mut words, &mut tags, line, size);
-        let count = played.count;
-        refused += refusal(played.number);
-        next = store_ledger_line(
-            room,
-            next,
-            lines,
-            played.number,
-            played.handed,
-            &tags[..count],
-        );
+        let answer = play_line(&mut ledger, &mut tags, line, size);
+        refused += u32::from(answer.is_err());
+        write_answer(&mut out, lines, answer, &tags);
     }
+    write_end(&mut out, &ledger, lines, refused, size);
+    out.at
 }

@@ -1,61 +1,49 @@
 // One line for each sender that has joined, in rising number: `sender=1 first=0 open=2 end=none`.
-ghost use Rattle.std.specs.Prelude.{◌+◌, ◌≤◌, length};
 ghost use Rattle.kinds.specs.Sizes.{benches_of};
-ghost use Rattle.spelling.specs.Stored.{Stored};
+ghost use Rattle.room.specs.Writes.{Holds, Writes};
 ghost use Rattle.senders.specs.Rows.{row_is};
+ghost use Rattle.ledger.specs.Seen.{rows_by};
 ghost use Rattle.reports.specs.LedgerReport.{slots_text, sender_line, sender_lines};
-ghost use Rattle.ledger_report.specs.Parts.{seen_rows};
 
-use kinds::{BenchNo, Size};
-use ledger::{CursorWords, Row, RowWords, row_of};
-use room::bytes::put_bytes;
-use room::decimal::put_field;
+use kinds::{BenchNo, Size, SlotNo};
+use ledger::{Ledger, Row};
+use room::Writer;
 use sets::benches_of;
 
-pub(crate) fn store_senders(
-    room: &mut [u8],
-    at: usize,
-    cursor: &CursorWords,
-    rows: &RowWords,
-    size: Size,
-) -> usize
-    requires { at + length (sender_lines (benches_of size) (seen_rows cursor.now rows.now)) ≤ length room.old }
-    ensures { Stored room.old at (sender_lines (benches_of size) (seen_rows cursor.now rows.now)) result room.new }
+pub(crate) fn write_senders(out: &mut Writer, ledger: &Ledger, size: Size)
+    requires { Holds out.old (sender_lines (benches_of size) (rows_by ledger.now)) }
+    ensures { Writes out.old (sender_lines (benches_of size) (rows_by ledger.now)) out.new }
 {
-    let many = benches_of(size);
-    let mut next = at;
-    for k in 0..many {
-        let s = k + 1;
-        let row = row_of(cursor, rows, BenchNo(s));
-        next = store_sender(room, next, s, row);
+    for s in 1..=benches_of(size) {
+        let sender = BenchNo(s);
+        write_sender(out, sender, ledger.row_of(sender));
     }
-    next
 }
 
 // A sender that has not joined has no line.
-fn store_sender(room: &mut [u8], at: usize, sender: u32, row: Row) -> usize
-    requires { at + length (sender_line sender (row_is row)) ≤ length room.old }
-    ensures { Stored room.old at (sender_line sender (row_is row)) result room.new }
+fn write_sender(out: &mut Writer, sender: BenchNo, row: Row)
+    requires { Holds out.old (sender_line sender.0 (row_is row)) }
+    ensures { Writes out.old (sender_line sender.0 (row_is row)) out.new }
 {
     match row {
-        Row::Unknown => at,
+        Row::Unknown => {}
         Row::Joined { first, open } => {
-            let a = store_slots(room, at, sender, first.0, open.0);
-            put_bytes(room, a, b" end=none\n")
+            write_slots(out, sender, first, open);
+            out.put_bytes(b" end=none\n");
         }
         Row::Ended { first, open, end } => {
-            let a = store_slots(room, at, sender, first.0, open.0);
-            let b = put_field(room, a, b" end=", end.0);
-            put_bytes(room, b, b"\n")
+            write_slots(out, sender, first, open);
+            out.put_field(b" end=", end.0);
+            out.put_bytes(b"\n");
         }
     }
 }
 
-fn store_slots(room: &mut [u8], at: usize, sender: u32, first: u32, opened: u32) -> usize
-    requires { at + length (slots_text sender first opened) ≤ length room.old }
-    ensures { Stored room.old at (slots_text sender first opened) result room.new }
+fn write_slots(out: &mut Writer, sender: BenchNo, first: SlotNo, opened: SlotNo)
+    requires { Holds out.old (slots_text sender.0 first.0 opened.0) }
+    ensures { Writes out.old (slots_text sender.0 first.0 opened.0) out.new }
 {
-    let a = put_field(room, at, b"sender=", sender);
-    let b = put_field(room, a, b" first=", first);
-    put_field(room, b, b" open=", opened)
+    out.put_field(b"sender=", sender.0);
+    out.put_field(b" first=", first.0);
+    out.put_field(b" open=", opened.0);
 }

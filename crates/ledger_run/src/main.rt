@@ -10,15 +10,28 @@ ghost use Rattle.reports.specs.LedgerReport.{ledger_report_of};
 ghost use Rattle.printing.specs.Printed.{printed};
 
 use ledger_report::{ROOM, report};
-use printing::{Failure, INPUT, read_full};
-use reports::Reported;
-use room::totals::put_refusal;
-use std::io;
+use kinds::Refusal;
+use printing::{Failure, Reporting, print_report};
 use std::io::{Read, Write};
 
 fn main(rt: HostRuntime) {
     if let Err(failure) = run(&mut rt.stdin(), &mut rt.stdout()) {
         let _ = eprintln!(rt; "ledger_run: {failure}");
+    }
+}
+
+// A ledger script, and its report.
+struct LedgerScript;
+
+impl Reporting<ROOM> for LedgerScript {
+    ghost use Rattle.ledger_run.specs.Held.{held};
+
+    ghost report_of = { ledger_report_of Sixteen };
+
+    ghost held = { held };
+
+    fn report(&self, text: &[u8], room: &mut [u8; ROOM]) -> Result<usize, Refusal> {
+        report(text, room)
     }
 }
 
@@ -28,26 +41,5 @@ pub fn run<R: Read, W: Write>(from: &mut R, to: &mut W) -> Result<(), Failure>
         (λ text. Appends (W.contents to.old) (W.contents to.new) (printed (ledger_report_of Sixteen) text))) }
     ensures unread { IsErrOf result Failure.Input → to.new ≡ to.old }
 {
-    let mut input = [0u8; INPUT];
-    let mut room = [0u8; ROOM];
-    let Ok(n) = read_full(from, &mut input) else {
-        return Err(Failure::Input);
-    };
-    match play(&input[..n], &mut room, to) {
-        Ok(()) => Ok(()),
-        Err(_) => Err(Failure::Output),
-    }
-}
-
-// Prints what is to be printed of the text, by way of the room.
-fn play<W: Write>(text: &[u8], room: &mut [u8; ROOM], to: &mut W) -> io::Result<()>
-    ensures { OnOk result (Appends (W.contents to.old) (W.contents to.new) (printed (ledger_report_of Sixteen) text.now)) }
-{
-    match report(text, room) {
-        Reported::Length(length) => to.write_all(&room[..length]),
-        Reported::Refused(number) => {
-            let end = put_refusal(room, 0, number);
-            to.write_all(&room[..end])
-        }
-    }
+    print_report(&LedgerScript, from, to)
 }

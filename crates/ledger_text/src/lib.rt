@@ -6,26 +6,18 @@
 ghost use Rattle.std.specs.Prelude.{◌≡◌};
 ghost use Rattle.spelling.specs.LedgerReading.{read_script_line_of};
 
-use spelling::{LedgerFound, LedgerRead, LedgerSaid};
+use spelling::{Found, LedgerStep};
+use text::lines;
 
-mod tags; // tags.rt: how a tag is spelled
-mod reading; // reading.rt: a step's line read
+mod reading; // reading.rt: a step read
 
-// The line that begins at a place of a script.
-pub fn read_line(text: &[u8], at: usize) -> LedgerRead
+// The line that begins at a place of a script, a step or none, and the place of the next; None at the end of the script.
+pub fn read_line(text: &[u8], at: usize) -> Found<Option<LedgerStep>>
     ensures { result ≡ read_script_line_of text.now at }
 {
-    if text.len() <= at {
-        return LedgerRead::End;
+    if at < text.len() {
+        Some(lines::ended(text, at, reading::step_at(text, at)))
+    } else {
+        None
     }
-    let LedgerFound::Spelled(step, end) = reading::step_at(text, at) else {
-        return reading::pass_over(text, at);
-    };
-    if text.len() <= end {
-        return LedgerRead::Next(LedgerSaid::Does(step), end);
-    }
-    if text[end] == 10 {
-        return LedgerRead::Next(LedgerSaid::Does(step), end + 1);
-    }
-    reading::pass_over(text, at)
 }

@@ -1,118 +1,81 @@
-// A line of a script read, in one pass: what stands at its front says which step it is, and what must follow. Only a line that is no step
-// is looked at twice, the second time for its end.
-ghost use Rattle.std.specs.Prelude.{◌≡◌, ◌<◌, length};
-ghost use Rattle.spelling.specs.declared.LedgerSaid.TheVariants.{Malformed};
-ghost use Rattle.spelling.specs.declared.LedgerRead.TheVariants.{Next};
+// A step read where it stands in a script, in one go: what stands at its front says which step it is, and what must follow.
+ghost use Rattle.std.specs.Prelude.{◌≡◌, option_map};
 ghost use Rattle.spelling.specs.Numbers.{ascii};
-ghost use Rattle.spelling.specs.Fields.{field_at, next_at};
-ghost use Rattle.spelling.specs.LedgerReading.{ledger_verb_at, slot_at, sweep_at, ledger_rest_at, ledger_step_at};
+ghost use Rattle.spelling.specs.Fields.{field_at};
+ghost use Rattle.spelling.specs.LedgerReading.{ledger_verb_at, tag_field_at, ledger_rest_at, ledger_step_at};
 
-use crate::tags;
 use kinds::{BenchNo, SlotNo};
-use spelling::{
-    Found, LedgerFound, LedgerRead, LedgerSaid, LedgerStep, LedgerVerb, LedgerVerbFound,
-};
+use spelling::{Found, LedgerStep, LedgerVerb};
 use text::{bytes, numbers};
 
 // The step's name at a place: first those that a script has most of.
-fn verb_at(text: &[u8], at: usize) -> LedgerVerbFound
+#[tactic(auto, unfolding(spelling::specs::LedgerReading::ledger_verb_at, spelling::specs::LedgerReading::ledger_key_of))]
+fn verb_at(text: &[u8], at: usize) -> Found<LedgerVerb>
     ensures { result ≡ ledger_verb_at text.now at }
 {
-    if bytes::starts(text, at, b"sweep sender=") {
-        return LedgerVerbFound::Known(LedgerVerb::Sweep, at + 13);
+    if let Some(next) = bytes::behind(text, at, b"sweep sender=") {
+        return Some((LedgerVerb::Sweep, next));
     }
-    if bytes::starts(text, at, b"close sender=") {
-        return LedgerVerbFound::Known(LedgerVerb::Close, at + 13);
+    if let Some(next) = bytes::behind(text, at, b"close sender=") {
+        return Some((LedgerVerb::Close, next));
     }
-    if bytes::starts(text, at, b"handout room=") {
-        return LedgerVerbFound::Known(LedgerVerb::HandOut, at + 13);
+    if let Some(next) = bytes::behind(text, at, b"handout room=") {
+        return Some((LedgerVerb::HandOut, next));
     }
-    if bytes::starts(text, at, b"join sender=") {
-        return LedgerVerbFound::Known(LedgerVerb::Join, at + 12);
+    if let Some(next) = bytes::behind(text, at, b"join sender=") {
+        return Some((LedgerVerb::Join, next));
     }
-    if bytes::starts(text, at, b"end sender=") {
-        return LedgerVerbFound::Known(LedgerVerb::End, at + 11);
+    if let Some(next) = bytes::behind(text, at, b"end sender=") {
+        return Some((LedgerVerb::End, next));
     }
-    LedgerVerbFound::Unknown
+    None
 }
 
-// The slot at a place, with its key. The key is fixed here, so that the comparison compiles to fixed bytes.
-fn slot_at(text: &[u8], at: usize) -> Found
-    ensures { result ≡ field_at (ascii " slot=") text.now at }
+// What follows the sender of a step with a slot: the slot.
+fn slot_at(text: &[u8], at: usize) -> Found<SlotNo>
+    ensures { result ≡ option_map (λ (n, end). (record { 0 = n }, end)) (field_at (ascii " slot=") text.now at) }
 {
-    if !bytes::starts(text, at, b" slot=") {
-        return Found::Nothing;
-    }
-    numbers::number_at(text, at + 6)
+    let (slot, at) = numbers::field_at(text, at, b" slot=")?;
+    Some((SlotNo(slot), at))
 }
 
-// What follows the sender of a join.
-fn join_at(text: &[u8], at: usize, sender: u32) -> LedgerFound
-    ensures { result ≡ slot_at LedgerStep.Join text.now at sender }
+// What follows the sender of a sweep: the tag.
+#[tactic(auto, unfolding(spelling::specs::LedgerReading::tag_field_at))]
+fn tag_field_at(text: &[u8], at: usize) -> Found<u32>
+    ensures { result ≡ tag_field_at text.now at }
 {
-    let Found::Got(slot, end) = slot_at(text, at) else {
-        return LedgerFound::Unspelled;
-    };
-    LedgerFound::Spelled(LedgerStep::Join(BenchNo(sender), SlotNo(slot)), end)
-}
-
-// What follows the sender of a sweep.
-fn sweep_at(text: &[u8], at: usize, sender: u32) -> LedgerFound
-    ensures { result ≡ sweep_at text.now at sender }
-{
-    let Found::Got(tag, end) = tags::tag_field_at(text, at) else {
-        return LedgerFound::Unspelled;
-    };
-    LedgerFound::Spelled(LedgerStep::Sweep(BenchNo(sender), tag), end)
-}
-
-// What follows the sender of an end.
-fn end_at(text: &[u8], at: usize, sender: u32) -> LedgerFound
-    ensures { result ≡ slot_at LedgerStep.End text.now at sender }
-{
-    let Found::Got(slot, end) = slot_at(text, at) else {
-        return LedgerFound::Unspelled;
-    };
-    LedgerFound::Spelled(LedgerStep::End(BenchNo(sender), SlotNo(slot)), end)
+    let at = bytes::behind(text, at, b" tag=")?;
+    numbers::tag_at(text, at)
 }
 
 // What follows the first number of a step.
-fn rest_at(text: &[u8], at: usize, verb: LedgerVerb, number: u32) -> LedgerFound
+#[tactic(auto, unfolding(spelling::specs::LedgerReading::ledger_rest_at, spelling::specs::LedgerReading::slot_at, spelling::specs::LedgerReading::sweep_at))]
+fn rest_at(text: &[u8], at: usize, verb: LedgerVerb, number: u32) -> Found<LedgerStep>
     ensures { result ≡ ledger_rest_at text.now at verb number }
 {
+    let sender = BenchNo(number);
     match verb {
-        LedgerVerb::Join => join_at(text, at, number),
-        LedgerVerb::Sweep => sweep_at(text, at, number),
-        LedgerVerb::Close => LedgerFound::Spelled(LedgerStep::Close(BenchNo(number)), at),
-        LedgerVerb::End => end_at(text, at, number),
-        LedgerVerb::HandOut => LedgerFound::Spelled(LedgerStep::HandOut(number), at),
+        LedgerVerb::Join => slot_at(text, at).map(|(first, at)| (
+            LedgerStep::Join(sender, first),
+            at,
+        )),
+        LedgerVerb::Sweep => tag_field_at(text, at).map(|(tag, at)| (
+            LedgerStep::Sweep(sender, tag),
+            at,
+        )),
+        LedgerVerb::Close => Some((LedgerStep::Close(sender), at)),
+        LedgerVerb::End => slot_at(text, at).map(|(slot, at)| (LedgerStep::End(sender, slot), at)),
+        LedgerVerb::HandOut => Some((LedgerStep::HandOut(number), at)),
     }
 }
 
 // The step that is spelled from a place on.
-pub(crate) fn step_at(text: &[u8], at: usize) -> LedgerFound
+#[tactic(auto, unfolding(spelling::specs::LedgerReading::ledger_step_at))]
+pub(crate) fn step_at(text: &[u8], at: usize) -> Found<LedgerStep>
     ensures { result ≡ ledger_step_at text.now at }
 {
-    if !bytes::starts(text, at, b"step=") {
-        return LedgerFound::Unspelled;
-    }
-    let LedgerVerbFound::Known(verb, first) = verb_at(text, at + 5) else {
-        return LedgerFound::Unspelled;
-    };
-    let Found::Got(number, next) = numbers::number_at(text, first) else {
-        return LedgerFound::Unspelled;
-    };
-    rest_at(text, next, verb, number)
-}
-
-// A line that is no step is passed over.
-pub(crate) fn pass_over(text: &[u8], at: usize) -> LedgerRead
-    requires { at < length text.now }
-    ensures { result ≡ Next Malformed (next_at text.now at) }
-{
-    let end = bytes::line_end(text, at);
-    if end < text.len() {
-        return LedgerRead::Next(LedgerSaid::Malformed, end + 1);
-    }
-    LedgerRead::Next(LedgerSaid::Malformed, end)
+    let at = bytes::behind(text, at, b"step=")?;
+    let (verb, at) = verb_at(text, at)?;
+    let (number, at) = numbers::number_at(text, at)?;
+    rest_at(text, at, verb, number)
 }

@@ -6,21 +6,24 @@ use lib.Dec.{leb}
 use lib.ListN.{length-append}
 use borrow.Author.Tests.{leb-true, leb-false, le-leb, lt-leb}
 use Rattle.common.proofs.Tests.{split, clash}
+use Rattle.spelling.specs.Numbers.{digits, leads}
 use Rattle.spelling.specs.Answers.{refusal_text}
 use Rattle.spelling.specs.Stored.{Stored, fitting}
-use Rattle.spelling.proofs.Answers.{refusal_length}
-use Rattle.spelling.proofs.Decimals.{digits_length}
 use Rattle.spelling.proofs.Stores.{fitting_stored}
 use Rattle.spelling.proofs.Puts.{front}
-use Rattle.reports.specs.declared.Reported.{Reported}
-use Rattle.reports.specs.declared.Reported.TheVariants.{Length, Refused}
-use Rattle.reports.specs.Reported.{Reports, number_of, length_of, number_for, longest}
+use Rattle.std.specs.Prelude.{Result, Ok, Err}
+use Rattle.kinds.specs.declared.Refusal.{Refusal}
+use Rattle.kinds.specs.declared.Refusal.TheVariants.{LongText}
+use Rattle.kinds.specs.Refusals.{number_of, answer_of}
+use Rattle.reports.specs.Reported.{Reports, length_of, longest}
 use Rattle.reports.proofs.Theorems.{report_stands, report_settles}
+use Rattle.reports.proofs.Refusals.{never_done}
 use Rattle.reports.proofs.Settled.{text_long}
-use Rattle.printing.specs.Printed.{printed}
+use Rattle.printing.specs.Printed.{printed, HeldBy}
 
-refusal_short : (k : ℕ) → length (refusal_text k) ≤ 19
-refusal_short k = omega (arith, refusal_length k, (digits_length k).1)
+refusal_short : length (refusal_text 23) ≡ 11
+unfolding digits leads
+refusal_short = refl
 
 module _ (report : List ℕ → List ℕ) where
   of_short : (text : List ℕ) → length text ≤ longest → printed report text ≡ report text
@@ -48,37 +51,32 @@ module _ (report : List ℕ → List ℕ) where
       let is_n : length (take n input) ≡ n = length-take-le n input h in
       subst (Appends held held') (printed_read text (take n input) rest read (λ few. end (omega arith))) p
 
-  -- where the report is never empty, and the room holds that of each text that is not too long
-  module _ (some : (text : List ℕ) → 1 ≤ length (report text)) {text room a : List ℕ} {r : Reported}
-      (enough : length text ≤ longest → number_for text (report text) room ≡ 0) (p : Reports text (report text) room r a) where
-    answer_short : length text ≤ longest → number_of r ≡ 0
-    answer_short h = p.number ∙ enough h
+  -- where no report is empty, and the room holds that of each text that is not too long
+  module _ {bytes : ℕ} (held : HeldBy bytes report) {text room a : List ℕ} (wide : bytes ≤ length room) {r : Result ℕ Refusal}
+      (p : Reports text (report text) room r a) where
+    answer_short : length text ≤ longest → answer_of r ≡ 0
+    answer_short h = p.number ∙ held.enough text room h wide
 
-    -- of one that is too long the answer is 23, and the room is as it was
-    answer_long : longest < length text → (r ≡ Refused 23) × (a ≡ room)
-    answer_long h = report_settles (some text) p (text_long text (report text) room h)
+    -- of one that is too long the answer is 23
+    answer_long : longest < length text → r ≡ Err LongText
+    answer_long h = (report_settles (held.some text) p (text_long text (report text) room h)).0
 
     -- a length is that of the report, which stands at the room's front
-    pub report_printed : (n : ℕ) → r ≡ Length n → take n a ≡ printed report text
-    unfolding number_of length_of
+    pub report_printed : (n : ℕ) → r ≡ Ok n → take n a ≡ printed report text
     report_printed n e = split (leb (length text) longest)
         (λ h.
         let short = leb-true (length text) longest h in
         ap (λ k. take k a) (sym (ap length_of e)) ∙ report_stands p (answer_short short) ∙ sym (of_short text short))
-        (λ h. clash (let z : 0 ≡ 23 = sym (ap number_of e) ∙ ap number_of (answer_long (leb-false (length text) longest h)).0 in omega arith))
+        (λ h. clash (let z : 0 ≡ 23 = sym (ap answer_of e) ∙ ap answer_of (answer_long (leb-false (length text) longest h)) in omega arith))
 
-    -- a refusal is 23, whose line has room in 19 bytes
-    pub refusal_printed : 19 ≤ length room → (k : ℕ) → r ≡ Refused k → {next : ℕ} {a' : List ℕ} → Stored a 0 (fitting a 0 (refusal_text k)) next a' → take next a' ≡ printed report text
-    unfolding number_of length_of
-    refusal_printed wide k e {next} {a'} s = split (leb (length text) longest)
-        (λ h.
-        let short = leb-true (length text) longest h in
-        let empty : take 0 a ≡ report text = ap (λ n. take n a) (sym (ap length_of e)) ∙ report_stands p (answer_short short) in
-        clash (let z : 0 ≡ length (report text) = ap length empty in omega (arith, some text)))
+    -- a refusal is 23, whose line has room in 11 bytes
+    pub refusal_printed : (k : Refusal) → r ≡ Err k → {l l' : List ℕ} {next : ℕ} → 11 ≤ length l
+        → Stored l 0 (fitting l 0 (refusal_text (number_of k))) next l' → take next l' ≡ printed report text
+    refusal_printed k e {l} {l'} {next} wide s = split (leb (length text) longest)
+        (λ h. absurd (never_done k (ap answer_of (sym e) ∙ answer_short (leb-true (length text) longest h))))
         (λ h.
         let long = leb-false (length text) longest h in
-        let q = answer_long long in
-        let is_23 : k ≡ 23 = sym (ap number_of e) ∙ ap number_of q.0 in
-        let fits : 0 + length (refusal_text 23) ≤ length a = omega (arith, ap length q.1, refusal_short 23) in
-        let inside : length (refusal_text 23) ≤ length a = omega (arith, fits) in
-        front (refusal_text 23) inside (fitting_stored a 0 (refusal_text 23) fits (subst (λ n. Stored a 0 (fitting a 0 (refusal_text n)) next a') is_23 s)) ∙ sym (of_long text long))
+        let is_23 : number_of k ≡ 23 = ap answer_of (sym e ∙ answer_long long) in
+        let fits : 0 + length (refusal_text 23) ≤ length l = omega (arith, refusal_short) in
+        let inside : length (refusal_text 23) ≤ length l = omega (arith, fits) in
+        front (refusal_text 23) inside (fitting_stored l 0 (refusal_text 23) fits (rw is_23 at s)) ∙ sym (of_long text long))

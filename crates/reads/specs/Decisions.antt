@@ -1,8 +1,8 @@
--- Which decision of the published rounds each case of `Decision` stands for. This file is to be believed.
+-- Which decision of the published rounds an answer stands for. This file is to be believed.
+use Rattle.std.specs.Prelude.{Option, Some, None}
 use Rattle.published.specs.Rounds as published
-use Rattle.reads.specs.declared.Decision.{Decision}
-use Rattle.reads.specs.declared.Decision.TheVariants.{None, Chosen}
+use Rattle.kinds.specs.declared.SlotNo.{SlotNo}
 
-unfoldable pub decision_is : Decision → published.Decision
+unfoldable pub decision_is : Option SlotNo → published.Decision
 decision_is None = published.none
-decision_is (Chosen v) = published.chosen v.0
+decision_is (Some v) = published.chosen v.0

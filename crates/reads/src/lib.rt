@@ -2,72 +2,48 @@
 
 #![tactic(auto)]
 
-ghost use Rattle.std.specs.Prelude.{◌≡◌};
+ghost use Rattle.std.specs.Prelude.{◌≡◌, ◌-◌, true, false, MatchOption};
 ghost use Rattle.common.specs.Benches.{is_bench};
 ghost use Rattle.kinds.specs.Sizes.{places};
+ghost use Rattle.tables.specs.Rows.{rows};
 ghost use Rattle.reads.specs.Decisions.{decision_is};
 ghost use Rattle.reads.specs.Reads.{state_word, sent_word, decision_at};
 
-use bench::FRESH;
-use kinds::{BenchNo, PLACES, SlotNo};
-use sets::place;
-use tables::{Benches, CHOSE, SENT, STATE, VALUE};
+use bench::{Bench, FRESH};
+use kinds::{BenchNo, SlotNo};
+use tables::Benches;
 
 pub mod worlds;
 
-// What a bench has decided.
-#[derive(Clone, Copy)]
-pub enum Decision {
-    None,
-    Chosen(SlotNo),
-}
-
 // The bench's state, one of those that crate `bench` names; fresh where a table has no such place.
-#[tactic(auto, using(crate::proofs::Reading::no_state, crate::proofs::Reading::has_state))]
+#[tactic(auto, unfolding(crate::specs::Reads::state_word))]
 pub fn state_of(benches: &Benches, bench: BenchNo) -> u32
     ensures { result ≡ state_word benches.now bench.0 }
 {
-    if !has_place(bench) {
-        return FRESH;
-    }
-    let k = place(bench);
-    benches[k][STATE]
+    find(benches, bench).map_or(FRESH, |found| found.state)
 }
 
 // The last round that the bench sent a message of; 0 where it sent none, or a table has no such place.
-#[tactic(auto, using(crate::proofs::Reading::no_sent, crate::proofs::Reading::has_sent))]
+#[tactic(auto, unfolding(crate::specs::Reads::sent_word))]
 pub fn sent_of(benches: &Benches, bench: BenchNo) -> u32
     ensures { result ≡ sent_word benches.now bench.0 }
 {
-    if !has_place(bench) {
-        return 0;
-    }
-    let k = place(bench);
-    benches[k][SENT]
+    find(benches, bench).map_or(0, |found| found.sent)
 }
 
 // What the bench has decided; nothing where a table has no such place.
-#[tactic(auto, using(crate::proofs::Reading::no_decision, crate::proofs::Reading::undecided, crate::proofs::Reading::decided))]
-pub fn decision_of(benches: &Benches, bench: BenchNo) -> Decision
+#[tactic(auto, unfolding(crate::specs::Decisions::decision_is, crate::specs::Reads::decision_at, tables::specs::Runs::decision_of))]
+pub fn decision_of(benches: &Benches, bench: BenchNo) -> Option<SlotNo>
     ensures { decision_is result ≡ decision_at benches.now bench.0 }
 {
-    if !has_place(bench) {
-        return Decision::None;
-    }
-    let k = place(bench);
-    if benches[k][CHOSE] != 1 {
-        return Decision::None;
-    }
-    Decision::Chosen(SlotNo(benches[k][VALUE]))
+    let found = find(benches, bench)?;
+    (found.chose == 1).then_some(found.value)
 }
 
-// Whether a table has a place for the number.
-#[tactic(auto, using(sets::proofs::Numbers::bench_low, sets::proofs::Numbers::bench_top))]
-fn has_place(bench: BenchNo) -> bool
-    ensures { result ≡ is_bench places bench.0 }
+// The bench of a number; none where a table has no such place.
+#[tactic(auto, unfolding(common::specs::Benches::is_bench))]
+fn find(benches: &Benches, bench: BenchNo) -> Option<&Bench>
+    ensures { MatchOption result (is_bench places bench.0 ≡ false) (λ found. (is_bench places bench.0 ≡ true) × (found.now ≡ rows benches.now (bench.0 - 1))) }
 {
-    if bench.0 < 1 {
-        return false;
-    }
-    (bench.0 as usize) <= PLACES
+    benches.get((bench.0 as usize).checked_sub(1)?)
 }

@@ -4,58 +4,36 @@ ghost use Rattle.kinds.specs.Sizes.{benches_of, places};
 ghost use Rattle.tables.specs.Steps.{lacks_at, lacks_one, lacked_at, lacked_by_one};
 
 use bench::{DECIDED, RUNNING};
-use kinds::{DEPTH, Size};
+use kinds::Size;
 use sets::{benches_of, has};
-use tables::{Benches, Logs, SENT, STATE};
+use tables::{Benches, Tables};
 
 // Whether the world lacks a bench that has started and has neither left nor failed.
 pub fn lacks_one(benches: &Benches, world: u32, size: Size) -> bool
     ensures { result ≡ lacks_one (benches_of size) benches.now world }
 {
-    let n = benches_of(size) as usize;
-    for j in 0..n {
-        if lacks_at(benches, world, j) {
-            return true;
-        }
-    }
-    false
+    (0..benches_of(size) as usize).any(|j| lacks_at(benches, world, j))
 }
 
-#[tactic(auto, using(crate::proofs::Lacking::lacks_running, crate::proofs::Lacking::lacks_decided, crate::proofs::Lacking::lacks_other))]
+// Whether the world of some bench that ever started lacks the bench at k.
+pub fn lacked_by_one(tables: &Tables, k: usize, size: Size) -> bool
+    ensures { result ≡ lacked_by_one (benches_of size) tables.now.benches tables.now.logs k }
+{
+    (0..benches_of(size) as usize).any(|j| lacked_at(tables, k, j))
+}
+
+#[tactic(auto, unfolding(tables::specs::Steps::lacks_at))]
 fn lacks_at(benches: &Benches, world: u32, j: usize) -> bool
     requires { j < places }
     ensures { result ≡ lacks_at benches.now world j }
 {
-    let state = benches[j][STATE];
-    if state == RUNNING {
-        return !has(world, j);
-    }
-    if state == DECIDED {
-        return !has(world, j);
-    }
-    false
+    matches!(benches[j].state, RUNNING | DECIDED) && !has(world, j)
 }
 
-// Whether the world of some bench that ever started lacks the bench at k.
-pub fn lacked_by_one(benches: &Benches, logs: &Logs, k: usize, size: Size) -> bool
-    ensures { result ≡ lacked_by_one (benches_of size) benches.now logs.now k }
-{
-    let n = benches_of(size) as usize;
-    for j in 0..n {
-        if lacked_at(benches, logs, k, j) {
-            return true;
-        }
-    }
-    false
-}
-
-#[tactic(auto, using(crate::proofs::Lacking::lacked_started, crate::proofs::Lacking::lacked_never))]
-fn lacked_at(benches: &Benches, logs: &Logs, k: usize, j: usize) -> bool
+#[tactic(auto, unfolding(tables::specs::Steps::lacked_at))]
+fn lacked_at(tables: &Tables, k: usize, j: usize) -> bool
     requires { j < places }
-    ensures { result ≡ lacked_at benches.now logs.now k j }
+    ensures { result ≡ lacked_at tables.now.benches tables.now.logs k j }
 {
-    if 0 < benches[j][SENT] {
-        return !has(logs[j][DEPTH], k);
-    }
-    false
+    0 < tables.benches[j].sent && !has(tables.logs[j][0].world, k)
 }

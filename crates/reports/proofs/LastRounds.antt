@@ -1,4 +1,4 @@
--- The round that a report prints of a bench, the last among its messages, is the round that the bench is in. So a report's rounds are those of which W8 speaks.
+-- The round that a report prints of a bench, the last among its messages, is the round that the bench is in. So a report's rounds are those of which docs/PAUSE.md speaks.
 -- By cases on the moves. Assumes nothing.
 use mathlib.Core.Path.{◌≡◌, refl, ◌∙◌}
 use mathlib.Core.List.{List, [], ◌∷◌, ◌++◌}

@@ -7,6 +7,7 @@ use mathlib.Core.List.{List, [], ◌∷◌, map}
 use mathlib.Core.Path.{◌≡◌, refl}
 use lib.Dec.{eqb}
 use lib.ListN.{length, length-append}
+use Rattle.std.specs.Prelude.{Option, Some, None}
 use Rattle.kinds.specs.declared.Size.{Size}
 use Rattle.kinds.specs.declared.Size.TheVariants.{Sixteen}
 use Rattle.kinds.specs.Sizes.{benches_of}
@@ -16,15 +17,13 @@ use Rattle.book.specs.Book.{Book, new_book, answer, step}
 use Rattle.book.proofs.Kept.{Kept, kept_new, kept_step}
 use Rattle.spelling.specs.declared.LedgerStep.{LedgerStep}
 use Rattle.spelling.specs.declared.LedgerStep.TheVariants.{Join, Sweep, Close, End, HandOut}
-use Rattle.spelling.specs.declared.LedgerSaid.{LedgerSaid}
-use Rattle.spelling.specs.declared.LedgerSaid.TheVariants.{Does, Malformed}
 use Rattle.spelling.specs.LedgerSpelling.{ledger_step_text}
 use Rattle.spelling.specs.LedgerReading.{ledger_said_of, read_script}
 use Rattle.spelling.proofs.LedgerTheorems.{reads_iff_spelled}
 use Rattle.spelling.specs.LedgerSteps.{step_is, is_hand_out}
 use Rattle.reports.specs.LedgerReport.{ledger_answer_to, book_after, hands_out, ledger_line, ledger_lines, ledger_refused, last_lines, ledger_report_for, ledger_report_of}
 use Rattle.reports.specs.Reported.{longest, number_for}
-use Rattle.reports.proofs.Settled.{never_22}
+use Rattle.reports.proofs.Settled.{never_22, room_enough}
 use Rattle.reports.proofs.LedgerLines.{line_short, malformed_short, last_short, last_some}
 use Rattle.reports.proofs.Tags.{step_pays}
 
@@ -38,7 +37,7 @@ step_long (Close s) = omega arith
 step_long (End s e) = omega arith
 step_long (HandOut r) = omega arith
 
-does_long : (l : List ℕ) (s : LedgerStep) → ledger_said_of l ≡ Does s → 8 ≤ length l
+does_long : (l : List ℕ) (s : LedgerStep) → ledger_said_of l ≡ Some s → 8 ≤ length l
 does_long l s e = rw ((reads_iff_spelled l s).0 e).0 (step_long s)
 
 -- ---- the lines of the answers
@@ -47,23 +46,23 @@ module _ (size : Size) where
   abbrev n : ℕ
   n = benches_of size
 
-  pub kept_line : (b : Book) → Kept n b → (x : LedgerSaid) → Kept n (ledger_answer_to size b x).book
+  pub kept_line : (b : Book) → Kept n b → (x : Option LedgerStep) → Kept n (ledger_answer_to size b x).book
   unfolding ledger_answer_to answer
-  kept_line b h (Does s) = kept_step n b h (step_is s)
-  kept_line b h Malformed = h
+  kept_line b h (Some s) = kept_step n b h (step_is s)
+  kept_line b h None = h
 
   -- the line of the answer to x
-  abbrev pub line_for : ℕ → Book → LedgerSaid → List ℕ
+  abbrev pub line_for : ℕ → Book → Option LedgerStep → List ℕ
   line_for k b x = ledger_line k (ledger_answer_to size b x).number (eqb (ledger_answer_to size b x).number 0 && hands_out x) (ledger_answer_to size b x).tags
 
   -- a line pays for its answer, and for each sweep that is then held a tag
-  line_pays : (k : ℕ) (b : Book) (l : List ℕ) (x : LedgerSaid) → Kept n b → k < 100000 → ledger_said_of l ≡ x
+  line_pays : (k : ℕ) (b : Book) (l : List ℕ) (x : Option LedgerStep) → Kept n b → k < 100000 → ledger_said_of l ≡ x
       → length (line_for k b x) + 11 * length (ledger_answer_to size b x).book.held ≤ 21 * suc (length l) + 11 * length b.held
   unfolding ledger_answer_to answer hands_out
-  line_pays k b l (Does s) h g e =
+  line_pays k b l (Some s) h g e =
       let a = step n b (step_is s) in
       omega (arith, line_short k a.number (eqb a.number 0 && is_hand_out s) a.tags, step_pays n b h (step_is s), does_long l s e)
-  line_pays k b l Malformed h g e = omega (arith, malformed_short k g)
+  line_pays k b l None h g e = omega (arith, malformed_short k g)
 
   lines_pay : (k : ℕ) (b : Book) (ls : List (List ℕ)) → Kept n b → k + length ls < 100000
       → length (ledger_lines size (suc k) b (map ledger_said_of ls)) ≤ 21 * bytes_in ls + 11 * length b.held
@@ -111,3 +110,6 @@ module _ (text : List ℕ) where
 
   pub ledger_room : (room : List ℕ) → 1377401 ≤ length room → number_for text (ledger_report_of Sixteen text) room ≡ 22 → ⊥
   ledger_room room g = never_22 text (ledger_report_of Sixteen text) room (λ h. omega (arith, ledger_short h))
+
+  pub ledger_room_enough : (room : List ℕ) → length text ≤ longest → 1377401 ≤ length room → number_for text (ledger_report_of Sixteen text) room ≡ 0
+  ledger_room_enough room h g = room_enough text (ledger_report_of Sixteen text) room h (omega (arith, ledger_short h))

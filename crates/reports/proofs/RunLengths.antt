@@ -7,6 +7,7 @@ use mathlib.Core.List.{List, [], ◌∷◌, map}
 use mathlib.Core.Logic.{⊎_elim}
 use mathlib.Core.Path.{◌≡◌, refl, ap, ◌∙◌}
 use lib.ListN.{length, length-append, length-map}
+use Rattle.std.specs.Prelude.{Option, Some, None}
 use Rattle.published.specs.Rounds.{Run, Bench, new_run, new_bench, is_fresh, Step, Answer, refuse, done, step, run_from}
 use Rattle.common.specs.Updates.{put}
 use Rattle.common.proofs.Tests.{split}
@@ -16,11 +17,9 @@ use Rattle.published.proofs.Moves.{Outcome, refused, moved, step_outcome}
 use Rattle.kinds.specs.declared.Size.{Size}
 use Rattle.kinds.specs.Sizes.{benches_of}
 use Rattle.kinds.proofs.Sizes.{benches_fit, places_fit}
-use Rattle.kinds.specs.declared.Step as kinds
+use Rattle.kinds.specs.declared.Step.{Step as Line}
 use Rattle.kinds.specs.declared.Step.TheVariants.{Start, Abstain, Leave, Fail, Turn, Arrive, Notice}
 use Rattle.kinds.specs.Stand.{step_of}
-use Rattle.spelling.specs.declared.Said.{Said}
-use Rattle.spelling.specs.declared.Said.TheVariants.{Does, Malformed}
 use Rattle.spelling.specs.Numbers.{digits}
 use Rattle.spelling.specs.Spelling.{step_text}
 use Rattle.spelling.specs.Storing.{lead, four, low}
@@ -127,26 +126,26 @@ module _ (n : ℕ) where
   stood_after s (a ∷ l) = omega (arith, stood_after (step n s a).run l, stood_outcome s a (step n s a) (step_outcome n s a))
 
 module _ (size : Size) where
-  answer_below : (s : Run) (x : Said) → (answer_to size s x).number < 100
+  answer_below : (s : Run) (x : Option Line) → (answer_to size s x).number < 100
   unfolding answer_to refuse
-  answer_below s (Does a) = omega (arith, number_upto_11 (benches_of size) s (step_of a))
-  answer_below s Malformed = omega arith
+  answer_below s (Some a) = omega (arith, number_upto_11 (benches_of size) s (step_of a))
+  answer_below s None = omega arith
 
-  answers_below : (s : Run) (l : List Said) → Below (answers_from size s l)
+  answers_below : (s : Run) (l : List (Option Line)) → Below (answers_from size s l)
   unfolding answers_from
   answers_below s [] = none
   answers_below s (x ∷ l) =
       let next = (answer_to size s x).run in
       also (answer_to size s x).number (answers_from size next l) (answer_below s x) (answers_below next l)
 
-  answers_count : (s : Run) (l : List Said) → length (answers_from size s l) ≡ length l
+  answers_count : (s : Run) (l : List (Option Line)) → length (answers_from size s l) ≡ length l
   unfolding answers_from
   answers_count s [] = refl
   answers_count s (x ∷ l) = ap suc (answers_count (answer_to size s x).run l)
 
 -- ---- what lines take of the text
 
-step_long : (a : kinds.Step) → 17 ≤ length (step_text a)
+step_long : (a : Line) → 17 ≤ length (step_text a)
 unfolding step_text
 step_long (Start b v w) = simp length-append (omega (arith, digits_length b.0))
 step_long (Abstain b) = omega (arith, digits_length b.0)
@@ -162,10 +161,10 @@ unfolding steps_of bytes_in
 steps_take n f [] = omega arith
 steps_take n f (l ∷ ls) = go (said_of n l) refl (steps_take n f ls)
   where
-    go : (x : Said) → said_of n l ≡ x → length ls + 17 * length (steps_of (map (said_of n) ls)) ≤ bytes_in ls
+    go : (x : Option Line) → said_of n l ≡ x → length ls + 17 * length (steps_of (map (said_of n) ls)) ≤ bytes_in ls
         → suc (length ls) + 17 * length (steps_of (x ∷ map (said_of n) ls)) ≤ suc (length l) + bytes_in ls
-    go (Does a) e h = omega (arith, step_long a, ap length (line_writes_back n f l a e).0)
-    go Malformed e h = omega arith
+    go (Some a) e h = omega (arith, step_long a, ap length (line_writes_back n f l a e).0)
+    go None e h = omega arith
 
 -- ---- the report
 

@@ -13,9 +13,12 @@ use Rattle.common.specs.Checks.{judge}
 use Rattle.common.proofs.Tests.{clash, split}
 use Rattle.spelling.specs.Stored.{Stored}
 use Rattle.spelling.proofs.Puts.{front, past_sets}
-use Rattle.reports.specs.declared.Reported.{Reported}
-use Rattle.reports.specs.declared.Reported.TheVariants.{Length, Refused}
-use Rattle.reports.specs.Reported.{number_of, length_of, longest, number_for, length_for, room_after, Reports}
+use Rattle.std.specs.Prelude.{Result, Ok, Err}
+use Rattle.kinds.specs.declared.Refusal.{Refusal}
+use Rattle.kinds.specs.declared.Refusal.TheVariants.{ShortRoom, LongText}
+use Rattle.kinds.specs.Refusals.{number_of, answer_of}
+use Rattle.reports.proofs.Refusals.{same_refusal, never_done}
+use Rattle.reports.specs.Reported.{length_of, longest, number_for, length_for, room_after, Reports}
 
 module _ (text report room : List ℕ) where
   -- ---- by the checks
@@ -70,20 +73,18 @@ module _ (text report room : List ℕ) where
 
   -- ---- the three cases
 
-  refused_reports : (k : ℕ) → number_for text report room ≡ k → (k ≡ 0 → ⊥) → Reports text report room (Refused k) room
-  unfolding number_of length_of
-  refused_reports k e z =
-      let n : number_for text report room ≡ 0 → ⊥ = λ h. z (sym e ∙ h) in
+  refused_reports : (k : Refusal) → number_for text report room ≡ number_of k → Reports text report room (Err k) room
+  refused_reports k e =
+      let n : number_for text report room ≡ 0 → ⊥ = λ h. never_done k (sym e ∙ h) in
       record { number = sym e; bytes = sym (refused_length n); held = sym (refused_room n) }
 
-  pub text_long : longest < length text → Reports text report room (Refused 23) room
-  text_long h = refused_reports 23 (number_23 h) (λ z. omega arith)
+  pub text_long : longest < length text → Reports text report room (Err LongText) room
+  text_long h = refused_reports LongText (number_23 h)
 
-  pub room_short : length text ≤ longest → length room < length report → Reports text report room (Refused 22) room
-  room_short h g = refused_reports 22 (number_22 h g) (λ z. omega arith)
+  pub room_short : length text ≤ longest → length room < length report → Reports text report room (Err ShortRoom) room
+  room_short h g = refused_reports ShortRoom (number_22 h g)
 
-  pub report_done : length text ≤ longest → length report ≤ length room → {after : List ℕ} {n : ℕ} → Stored room 0 report n after → Reports text report room (Length n) after
-  unfolding number_of length_of
+  pub report_done : length text ≤ longest → length report ≤ length room → {after : List ℕ} {n : ℕ} → Stored room 0 report n after → Reports text report room (Ok n) after
   report_done h g s =
       let e = room_enough h g in
       record { number = sym e; bytes = s.place ∙ zero-add (length report) ∙ sym (done_length e); held = s.held ∙ sym (done_room e) }
@@ -94,24 +95,23 @@ module _ (text report room : List ℕ) where
     pub zero_is_refused : (length_for text report room ≡ 0 → number_for text report room ≡ 0 → ⊥) × ((number_for text report room ≡ 0 → ⊥) → length_for text report room ≡ 0)
     zero_is_refused = (λ z e. absurd (omega (arith, done_length e)), refused_length)
 
-    same_answer : (r r' : Reported) → number_of r ≡ number_for text report room → length_of r ≡ length_for text report room
-        → number_of r' ≡ number_for text report room → length_of r' ≡ length_for text report room → r ≡ r'
-    unfolding number_of length_of
-    same_answer (Length n) (Length m) p q p' q' = ap Length (q ∙ sym q')
-    same_answer (Length n) (Refused k) p q p' q' = absurd (zero_is_refused.0 (sym q') (sym p))
-    same_answer (Refused k) (Length n) p q p' q' = absurd (zero_is_refused.0 (sym q) (sym p'))
-    same_answer (Refused k) (Refused j) p q p' q' = ap Refused (p ∙ sym p')
+    same_answer : (r r' : Result ℕ Refusal) → answer_of r ≡ number_for text report room → length_of r ≡ length_for text report room
+        → answer_of r' ≡ number_for text report room → length_of r' ≡ length_for text report room → r ≡ r'
+    same_answer (Ok n) (Ok m) p q p' q' = ap Ok (q ∙ sym q')
+    same_answer (Ok n) (Err k) p q p' q' = absurd (never_done k (p' ∙ sym p))
+    same_answer (Err k) (Ok n) p q p' q' = absurd (never_done k (p ∙ sym p'))
+    same_answer (Err k) (Err j) p q p' q' = ap Err (same_refusal k j (p ∙ sym p'))
 
-    pub report_settles : {a a' : List ℕ} {r r' : Reported} → Reports text report room r a → Reports text report room r' a' → (r ≡ r') × (a ≡ a')
+    pub report_settles : {a a' : List ℕ} {r r' : Result ℕ Refusal} → Reports text report room r a → Reports text report room r' a' → (r ≡ r') × (a ≡ a')
     report_settles {r = r} {r'} p q = (same_answer r r' p.number p.bytes q.number q.bytes, p.held ∙ sym q.held)
 
 -- ---- the room
 
-module _ {text report room a : List ℕ} {r : Reported} (p : Reports text report room r a) where
-  pub refused_keeps : (number_of r ≡ 0 → ⊥) → a ≡ room
+module _ {text report room a : List ℕ} {r : Result ℕ Refusal} (p : Reports text report room r a) where
+  pub refused_keeps : (answer_of r ≡ 0 → ⊥) → a ≡ room
   refused_keeps e = p.held ∙ refused_room text report room (λ z. e (p.number ∙ z))
 
-  pub report_stands : number_of r ≡ 0 → take (length_of r) a ≡ report
+  pub report_stands : answer_of r ≡ 0 → take (length_of r) a ≡ report
   report_stands e =
       let z = sym p.number ∙ e in
       front report (fits text report room z)
@@ -131,18 +131,7 @@ module _ {text report room a : List ℕ} {r : Reported} (p : Reports text report
       (λ e. ap length (p.held ∙ refused_room text report room (eqb-false (number_for text report room) 0 e)))
 
   -- and a report lies within the room
-  pub length_inside : (n : ℕ) → r ≡ Length n → n ≤ length a
-  unfolding number_of length_of
+  pub length_inside : (n : ℕ) → r ≡ Ok n → n ≤ length a
   length_inside n e =
-      let z : number_for text report room ≡ 0 = sym p.number ∙ ap number_of e in
+      let z : number_for text report room ≡ 0 = sym p.number ∙ ap answer_of e in
       omega (arith, ap length_of e, p.bytes, done_length text report room z, fits text report room z, room_length)
-
-  -- ---- what C gets
-
-  pub length_got : (n : ℕ) → r ≡ Length n → n ≡ length_for text report room
-  unfolding length_of
-  length_got n e = sym (ap length_of e) ∙ p.bytes
-
-  pub refusal_got : (n : ℕ) → r ≡ Refused n → 0 ≡ length_for text report room
-  unfolding length_of
-  refusal_got n e = sym (ap length_of e) ∙ p.bytes

@@ -1,5 +1,5 @@
--- What is proved of both reports: what is promised settles everything, nothing is written on a refusal, how long a report can be, document 01's whole
--- case and a ledger script byte for byte, that all decisions of a report agree, and how far its rounds can go. Each statement stands below its words, the
+-- What is proved of both reports: what is promised settles everything, nothing is written on a refusal, how long a report can be, the case that docs/SCOPE.md
+-- gives whole and a ledger script byte for byte, that all decisions of a report agree, and how far its rounds can go. Each statement stands below its words, the
 -- proofs are in the other files. Assumes nothing.
 use Prim.Native.Nat.{ℕ, ◌+◌, ◌*◌, ◌≤◌}
 use mathlib.Core.List.{List, ◌++◌}
@@ -11,9 +11,10 @@ use Rattle.kinds.specs.declared.Size.{Size}
 use Rattle.kinds.specs.declared.Size.TheVariants.{Sixteen}
 use Rattle.kinds.specs.Sizes.{benches_of}
 use Rattle.spelling.specs.Text.{read_text}
-use Rattle.reports.specs.declared.Reported.{Reported}
-use Rattle.reports.specs.declared.Reported.TheVariants.{Length}
-use Rattle.reports.specs.Reported.{number_of, length_of, longest, number_for, length_for, Reports}
+use Rattle.std.specs.Prelude.{Result, Ok}
+use Rattle.kinds.specs.declared.Refusal.{Refusal}
+use Rattle.kinds.specs.Refusals.{answer_of}
+use Rattle.reports.specs.Reported.{length_of, longest, number_for, length_for, Reports}
 use Rattle.reports.specs.RunReport.{answers_from, steps_of, run_after, answer_lines, bench_lines, totals_of, run_report_of}
 use Rattle.reports.specs.Cut.{run_at, steps_behind, printed_round}
 use Rattle.reports.specs.LedgerReport.{ledger_report_of}
@@ -32,26 +33,26 @@ use Rattle.reports.proofs.LedgerExample as script
 -- ---- the promise settles everything, whatever the report
 
 -- Two answers with their rooms that are both promised of one text, one report that is not empty and one room are equal: the answer, and every byte of the room.
-pub report_settles : {text report room a a' : List ℕ} {r r' : Reported} → 1 ≤ length report → Reports text report room r a → Reports text report room r' a' → (r ≡ r') × (a ≡ a')
+pub report_settles : {text report room a a' : List ℕ} {r r' : Result ℕ Refusal} → 1 ≤ length report → Reports text report room r a → Reports text report room r' a' → (r ≡ r') × (a ≡ a')
 report_settles some = settled.report_settles _ _ _ some
 
 -- A refusal leaves every byte of the room as it was.
-pub refused_writes_nothing : {text report room a : List ℕ} {r : Reported} → Reports text report room r a → (number_of r ≡ 0 → ⊥) → a ≡ room
+pub refused_writes_nothing : {text report room a : List ℕ} {r : Result ℕ Refusal} → Reports text report room r a → (answer_of r ≡ 0 → ⊥) → a ≡ room
 refused_writes_nothing = settled.refused_keeps
 
 -- Otherwise the report stands at the room's front, and the places past it keep what they held.
-pub report_stands : {text report room a : List ℕ} {r : Reported} → Reports text report room r a → number_of r ≡ 0 → take (length_of r) a ≡ report
+pub report_stands : {text report room a : List ℕ} {r : Result ℕ Refusal} → Reports text report room r a → answer_of r ≡ 0 → take (length_of r) a ≡ report
 report_stands = settled.report_stands
 
-pub past_report_kept : {text report room a : List ℕ} {r : Reported} → Reports text report room r a → (i : ℕ) → length_of r ≤ i → get_or a i 0 ≡ get_or room i 0
+pub past_report_kept : {text report room a : List ℕ} {r : Result ℕ Refusal} → Reports text report room r a → (i : ℕ) → length_of r ≤ i → get_or a i 0 ≡ get_or room i 0
 past_report_kept = settled.past_kept
 
 -- In any case the room is as long as it was.
-pub room_length_kept : {text report room a : List ℕ} {r : Reported} → Reports text report room r a → length a ≡ length room
+pub room_length_kept : {text report room a : List ℕ} {r : Result ℕ Refusal} → Reports text report room r a → length a ≡ length room
 room_length_kept = settled.room_length
 
 -- A report lies within the room.
-pub report_inside : {text report room a : List ℕ} {r : Reported} → Reports text report room r a → (n : ℕ) → r ≡ Length n → n ≤ length a
+pub report_inside : {text report room a : List ℕ} {r : Result ℕ Refusal} → Reports text report room r a → (n : ℕ) → r ≡ Ok n → n ≤ length a
 report_inside = settled.length_inside
 
 -- Of a report that is not empty, the length that C gets is 0 exactly when the text or the room was refused.
@@ -79,13 +80,17 @@ room_enough = run.run_room
 pub ledger_report_length_bound : (text : List ℕ) → length text ≤ longest → length (ledger_report_of Sixteen text) ≤ 1377401
 ledger_report_length_bound = ledger.ledger_short
 
--- So a room of that many bytes, which the ledger's report function asks for by its type, is never refused by 22.
+-- So with that much room every script that is not too long gets its report.
+pub ledger_room_enough : (text room : List ℕ) → length text ≤ longest → 1377401 ≤ length room → number_for text (ledger_report_of Sixteen text) room ≡ 0
+ledger_room_enough = ledger.ledger_room_enough
+
+-- And a room of that many bytes, which the ledger's report function asks for by its type, is never refused by 22.
 pub ledger_room_never_short : (text room : List ℕ) → 1377401 ≤ length room → number_for text (ledger_report_of Sixteen text) room ≡ 22 → ⊥
 ledger_room_never_short = ledger.ledger_room
 
 -- ---- examples, byte for byte
 
--- Document 01's whole case: the report of its input is its output.
+-- The case that docs/SCOPE.md gives whole: the report of its input is its output.
 pub whole_case : run_report_of Sixteen whole_input ≡ whole_output
 whole_case = case.whole_case
 
@@ -93,7 +98,7 @@ whole_case = case.whole_case
 pub ended_case : run_report_of Sixteen ended_input ≡ ended_output
 ended_case = case.ended_case
 
--- The report of a ledger script with P9 and P10 of document 01 in it.
+-- The report of a ledger script with both ledger examples of docs/SCOPE.md in it.
 pub example : ledger_report_of Sixteen script_input ≡ script_output
 example = script.example
 
@@ -115,7 +120,7 @@ report_valid = decisions.report_valid
 pub report_bounded : (size : Size) (text : List ℕ) (i d : ℕ) → (run_after size text i).decision ≡ chosen d → (v : ℕ) × (w : ℕ) × Accepted (benches_of size) (start i v w) new_run (steps_of (read_text (benches_of size) text)) × (d ≤ v)
 report_bounded = decisions.report_bounded
 
--- ---- W8: the rounds of a run text's report
+-- ---- the rounds of a run text's report: docs/PAUSE.md
 
 -- The round that is printed of a bench is the round that the bench is in.
 pub printed_round_lem : (size : Size) (text : List ℕ) (b : ℕ) → printed_round (run_after size text) b ≡ (run_after size text b).round
@@ -130,7 +135,7 @@ report_two_more = rounds.report_two_more
 pub report_three : (size : Size) (text : List ℕ) → NoFailDone (benches_of size) new_run (steps_of (read_text (benches_of size) text)) → (b : ℕ) → printed_round (run_after size text) b ≤ 3
 report_three = rounds.report_three
 
--- ---- W9: how far rounds come
+-- ---- how far rounds come: docs/ROUNDS.md
 
 -- No text has a round above 2 n + 1 printed: none above 33 of a class of 16.
 pub report_rounds_end : (size : Size) (text : List ℕ) (b : ℕ) → printed_round (run_after size text) b ≤ 2 * benches_of size + 1

@@ -1,5 +1,5 @@
 -- A run text cut behind its line k: the run after the first k lines, and the steps of the lines behind them; and the round that a report prints of a bench.
--- This file is to be believed: W8 of reports is stated by it.
+-- This file is to be believed: what docs/PAUSE.md says of reports is stated by it.
 use Rattle.std.specs.Prelude.{List, ℕ, take, drop}
 use Rattle.published.specs.Rounds.{Run, new_run, Step, run_from}
 use Rattle.kinds.specs.declared.Size.{Size}

@@ -1,10 +1,10 @@
--- Document 01's whole case, and two examples of our own: texts and their reports, byte for byte. This file is to be believed: `whole_case`,
+-- The case that docs/SCOPE.md gives whole, and two examples more: texts and their reports, byte for byte. This file is to be believed: `whole_case`,
 -- `ended_case` and `example` of proofs/Theorems.antt say that the reports are those of the texts.
 use Rattle.std.specs.Prelude.{ℕ, List, [], ◌∷◌, ◌++◌}
 use Rattle.spelling.specs.Numbers.{ascii}
 use Rattle.spelling.specs.Lines.{text_of}
 
--- ---- document 01's whole case
+-- ---- the whole case
 
 abbrev pub whole_input : List ℕ
 whole_input = text_of (
@@ -65,7 +65,7 @@ ended_output = text_of (
     "bench=16 state=failed round=0 value=none" ∷
     "lines=11 refused=3" ∷ [])
 
--- ---- a ledger script with P9 and P10 in it
+-- ---- a ledger script with both ledger examples of docs/SCOPE.md in it
 
 abbrev pub script_input : List ℕ
 script_input = text_of (

@@ -1,31 +1,30 @@
 -- The report of a ledger script, as docs/LEDGER-SCRIPT.md says under 'What is printed': how lines are answered, and what is printed of the
 -- answers and of the book. This file is to be believed. The book is that of crate `book`, for as many senders as its size says.
-use Rattle.std.specs.Prelude.{ℕ, zero, suc, ◌+◌, Bool, true, false, ◌&&◌, List, [], ◌∷◌, ◌++◌, eqb, length}
+use Rattle.std.specs.Prelude.{ℕ, zero, suc, ◌+◌, Bool, true, false, ◌&&◌, List, [], ◌∷◌, ◌++◌, eqb, length, Option, Some, None}
 use Rattle.spelling.specs.Numbers.{ascii, digits}
 use Rattle.spelling.specs.Answers.{answer_text, totals, refusal_of}
 use Rattle.kinds.specs.declared.Size.{Size}
 use Rattle.kinds.specs.Sizes.{benches_of}
 use Rattle.book.specs.Book.{Row, unknown, joined, ended, Book, new_book, Answer, answer, step}
-use Rattle.spelling.specs.declared.LedgerSaid.{LedgerSaid}
-use Rattle.spelling.specs.declared.LedgerSaid.TheVariants.{Does, Malformed}
+use Rattle.spelling.specs.declared.LedgerStep.{LedgerStep}
 use Rattle.spelling.specs.LedgerReading.{read_script}
 use Rattle.spelling.specs.LedgerSteps.{step_is, is_hand_out}
 
 -- ---- How a script is played: a malformed line changes nothing, and reading goes on
 
-unfoldable pub ledger_answer_to : Size → Book → LedgerSaid → Answer
-ledger_answer_to size b (Does s) = step (benches_of size) b (step_is s)
-ledger_answer_to size b Malformed = answer 20 [] b
+unfoldable pub ledger_answer_to : Size → Book → Option LedgerStep → Answer
+ledger_answer_to size b (Some s) = step (benches_of size) b (step_is s)
+ledger_answer_to size b None = answer 20 [] b
 
-unfoldable pub book_after : Size → Book → List LedgerSaid → Book
+unfoldable pub book_after : Size → Book → List (Option LedgerStep) → Book
 book_after size b [] = b
 book_after size b (x ∷ l) = book_after size (ledger_answer_to size b x).book l
 
 -- ---- One line for each line of the script: its number from 1, the answer; of a hand-out that is done the count of tags, and the tags, if any
 
-unfoldable pub hands_out : LedgerSaid → Bool
-hands_out (Does s) = is_hand_out s
-hands_out Malformed = false
+unfoldable pub hands_out : Option LedgerStep → Bool
+hands_out (Some s) = is_hand_out s
+hands_out None = false
 
 unfoldable pub other_tags : List ℕ → List ℕ
 other_tags [] = []
@@ -42,7 +41,7 @@ handed_text false tags = []
 unfoldable pub ledger_line : ℕ → ℕ → Bool → List ℕ → List ℕ
 ledger_line k a handed tags = answer_text k a ++ (handed_text handed tags ++ (10 ∷ []))
 
-unfoldable pub ledger_lines : Size → ℕ → Book → List LedgerSaid → List ℕ
+unfoldable pub ledger_lines : Size → ℕ → Book → List (Option LedgerStep) → List ℕ
 ledger_lines size k b [] = []
 ledger_lines size k b (x ∷ l) =
     ledger_line k (ledger_answer_to size b x).number (eqb (ledger_answer_to size b x).number 0 && hands_out x) (ledger_answer_to size b x).tags
@@ -70,7 +69,7 @@ cursor_line next held = ascii "next=" ++ (digits next ++ (ascii " held=" ++ (dig
 
 -- ---- The number of lines not answered 0
 
-unfoldable pub ledger_refused : Size → Book → List LedgerSaid → ℕ
+unfoldable pub ledger_refused : Size → Book → List (Option LedgerStep) → ℕ
 ledger_refused size b [] = 0
 ledger_refused size b (x ∷ l) = refusal_of (ledger_answer_to size b x).number + ledger_refused size (ledger_answer_to size b x).book l
 
@@ -80,7 +79,7 @@ ledger_refused size b (x ∷ l) = refusal_of (ledger_answer_to size b x).number 
 unfoldable pub last_lines : Size → Book → ℕ → ℕ → List ℕ
 last_lines size b lines refused = sender_lines (benches_of size) b.rows ++ (cursor_line b.next (length b.held) ++ totals lines refused)
 
-unfoldable pub ledger_report_for : Size → Book → List LedgerSaid → List ℕ
+unfoldable pub ledger_report_for : Size → Book → List (Option LedgerStep) → List ℕ
 ledger_report_for size b l = ledger_lines size 1 b l ++ last_lines size (book_after size b l) (length l) (ledger_refused size b l)
 
 -- a script is played on a new ledger

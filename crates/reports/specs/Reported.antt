@@ -1,19 +1,15 @@
 -- What a report function answers of a text and its report, and what the room that it was lent then holds: refusal 23, then 22, else the report.
 -- This file is to be believed.
-use Rattle.std.specs.Prelude.{ℕ, cond, List, [], ◌∷◌, ◌≡◌, eqb, leb, length}
+use Rattle.std.specs.Prelude.{ℕ, cond, List, [], ◌∷◌, ◌≡◌, eqb, leb, length, Result}
+use Rattle.std.specs.Result.{result_unwrap_or}
 use Rattle.std.proofs.lemmas.List.Edits.{sets}
 use Rattle.common.specs.Checks.{needs, judge}
-use Rattle.reports.specs.declared.Reported.{Reported}
-use Rattle.reports.specs.declared.Reported.TheVariants.{Length, Refused}
+use Rattle.kinds.specs.declared.Refusal.{Refusal}
+use Rattle.kinds.specs.Refusals.{answer_of}
 
--- document 01's number of each case, 0 for done, and the report's length, which a refusal has not
-unfoldable pub number_of : Reported → ℕ
-number_of (Length n) = 0
-number_of (Refused k) = k
-
-unfoldable pub length_of : Reported → ℕ
-length_of (Length n) = n
-length_of (Refused k) = 0
+-- the report's length, which a refusal has not
+abbrev pub length_of : Result ℕ Refusal → ℕ
+length_of r = result_unwrap_or r 0
 
 -- the bytes of the longest text that is played: `LONGEST` in code
 abbrev pub longest : ℕ
@@ -32,7 +28,7 @@ unfoldable pub room_after : List ℕ → List ℕ → List ℕ → List ℕ
 room_after text report room = cond (eqb (number_for text report room) 0) (sets room 0 report) room
 
 -- an answer and a room are those of a text, of its report and of the room that was lent
-pub record Reports (text report room : List ℕ) (r : Reported) (after : List ℕ) : Type 0 where
-  pub number : number_of r ≡ number_for text report room
+pub record Reports (text report room : List ℕ) (r : Result ℕ Refusal) (after : List ℕ) : Type 0 where
+  pub number : answer_of r ≡ number_for text report room
   pub bytes : length_of r ≡ length_for text report room
   pub held : after ≡ room_after text report room

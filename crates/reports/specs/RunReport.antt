@@ -1,32 +1,31 @@
--- The report of a run text, as document 01 says under 'Run text': how lines are answered, and what is printed of the answers and of the run.
+-- The report of a run text, as docs/SCOPE.md says: how lines are answered, and what is printed of the answers and of the run.
 -- This file is to be believed. The run is that of `published`, for as many benches and rounds as its size says.
-use Rattle.std.specs.Prelude.{ℕ, zero, suc, ◌+◌, cond, List, [], ◌∷◌, ◌++◌, length}
+use Rattle.std.specs.Prelude.{ℕ, zero, suc, ◌+◌, cond, List, [], ◌∷◌, ◌++◌, length, Option, Some, None}
 use Rattle.published.specs.Rounds.{Message, Round, Out, State, fresh, running, decided, abstained, left, failed, Decision, none, chosen, Bench, Run, new_run, is_fresh, Step, Answer, refuse, step, run_from}
 use Rattle.kinds.specs.declared.Size.{Size}
 use Rattle.kinds.specs.Sizes.{benches_of}
+use Rattle.kinds.specs.declared.Step.{Step as Line}
 use Rattle.kinds.specs.Stand.{step_of}
-use Rattle.spelling.specs.declared.Said.{Said}
-use Rattle.spelling.specs.declared.Said.TheVariants.{Does, Malformed}
 use Rattle.spelling.specs.Numbers.{ascii, digits}
 use Rattle.spelling.specs.Answers.{answer_text, totals, refusal_of}
 use Rattle.spelling.specs.Text.{read_text}
 
 -- ---- How lines are answered: a malformed one changes nothing, and reading goes on
 
-unfoldable pub answer_to : Size → Run → Said → Answer
-answer_to size s (Does a) = step (benches_of size) s (step_of a)
-answer_to size s Malformed = refuse 20 s
+unfoldable pub answer_to : Size → Run → Option Line → Answer
+answer_to size s (Some a) = step (benches_of size) s (step_of a)
+answer_to size s None = refuse 20 s
 
-unfoldable pub answers_from : Size → Run → List Said → List ℕ
+unfoldable pub answers_from : Size → Run → List (Option Line) → List ℕ
 answers_from size s [] = []
 answers_from size s (x ∷ l) = (answer_to size s x).number ∷ answers_from size (answer_to size s x).run l
 
 -- ---- The run after a text: that of the steps that its lines say
 
-unfoldable pub steps_of : List Said → List Step
+unfoldable pub steps_of : List (Option Line) → List Step
 steps_of [] = []
-steps_of (Does a ∷ l) = step_of a ∷ steps_of l
-steps_of (Malformed ∷ l) = steps_of l
+steps_of (Some a ∷ l) = step_of a ∷ steps_of l
+steps_of (None ∷ l) = steps_of l
 
 abbrev pub run_after : Size → List ℕ → Run
 run_after size text = run_from (benches_of size) new_run (steps_of (read_text (benches_of size) text))

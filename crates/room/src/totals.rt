@@ -1,57 +1,41 @@
 // The last line of a report, and the one line that stands for a report that is refused.
-ghost use Rattle.std.specs.Prelude.{◌≡◌, ◌+◌, ◌≤◌, length};
+ghost use Rattle.std.specs.Prelude.{◌≡◌};
 ghost use Rattle.spelling.specs.Answers.{totals, refusal_of, refusal_text};
-ghost use Rattle.spelling.specs.Stored.{Stored, fitting};
+ghost use Rattle.room.specs.Writes.{Puts};
 
-use crate::{bytes, decimal};
+use crate::decimal::number_length;
+use crate::writer::Writer;
 use kinds::AnswerNo;
 
 // What an answer adds to the lines not answered 0: 1 of a refusal, 0 of what is done.
 pub fn refusal(answer: AnswerNo) -> u32
     ensures { result ≡ refusal_of answer }
 {
-    if answer == 0 {
-        return 0;
+    u32::from(answer != 0)
+}
+
+impl Writer<'_> {
+    // Writes the line of totals, where the room holds it.
+    pub fn put_totals(&mut self, lines: u32, refused: u32)
+        ensures { Puts self.old (totals lines refused) self.new }
+    {
+        if !self.has_room(16 + number_length(lines) + number_length(refused)) {
+            return;
+        }
+        self.put_field(b"lines=", lines);
+        self.put_field(b" refused=", refused);
+        self.put_bytes(b"\n");
     }
-    1
-}
 
-// Stores the line of totals from a place on, where the room holds it, and answers the place behind it. Else the room is as it was, and the
-// answer is the place that was given.
-pub fn put_totals(room: &mut [u8], at: usize, lines: u32, refused: u32) -> usize
-    ensures { Stored room.old at (fitting room.old at (totals lines refused)) result room.new }
-{
-    let count = 16 + decimal::number_length(lines) + decimal::number_length(refused);
-    if !bytes::has_room(room, at, count) {
-        return at;
+    // Writes the line that is printed in a report's place, where the room holds it: the number of the refusal.
+    pub fn put_refusal(&mut self, number: AnswerNo)
+        ensures { Puts self.old (refusal_text number) self.new }
+    {
+        let refused = number as u32;
+        if !self.has_room(9 + number_length(refused)) {
+            return;
+        }
+        self.put_field(b"refused=", refused);
+        self.put_bytes(b"\n");
     }
-    store_totals(room, at, lines, refused)
-}
-
-fn store_totals(room: &mut [u8], at: usize, lines: u32, refused: u32) -> usize
-    requires { at + length (totals lines refused) ≤ length room.old }
-    ensures { Stored room.old at (totals lines refused) result room.new }
-{
-    let a = decimal::store_field(room, at, b"lines=", lines);
-    let b = decimal::store_field(room, a, b" refused=", refused);
-    bytes::store_bytes(room, b, b"\n")
-}
-
-// Stores the line that is printed in a report's place, in the same way: the number of the refusal.
-pub fn put_refusal(room: &mut [u8], at: usize, number: AnswerNo) -> usize
-    ensures { Stored room.old at (fitting room.old at (refusal_text number)) result room.new }
-{
-    let count = 9 + decimal::number_length(number as u32);
-    if !bytes::has_room(room, at, count) {
-        return at;
-    }
-    store_refusal(room, at, number)
-}
-
-fn store_refusal(room: &mut [u8], at: usize, number: AnswerNo) -> usize
-    requires { at + length (refusal_text number) ≤ length room.old }
-    ensures { Stored room.old at (refusal_text number) result room.new }
-{
-    let a = decimal::store_field(room, at, b"refused=", number as u32);
-    bytes::store_bytes(room, a, b"\n")
 }

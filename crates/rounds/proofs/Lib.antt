@@ -1,7 +1,2 @@
-pub mod Words
 pub mod Hearing
-pub mod Sending
 pub mod Turning
-pub mod Moving
-pub mod Starting
-pub mod Numbers

@@ -1,56 +1,71 @@
-// Arrive and notice at the benches' places: what a bench takes of a line, and what closes it.
+// Arrive and notice: what a bench takes of a line, and what closes it.
 
-ghost use Rattle.std.specs.Prelude.{◌<◌};
-ghost use Rattle.kinds.specs.Sizes.{places};
-ghost use Rattle.tables.specs.Steps.{Acts, arrive_at, notice_at};
+ghost use Rattle.std.specs.Prelude.{◌≡◌, ◌-◌, ◌&&◌, true, false, cond, eqb, MatchResult};
+ghost use Rattle.common.specs.Benches.{is_bench};
+ghost use Rattle.published.specs.Rounds as published;
+ghost use Rattle.kinds.specs.Sizes.{benches_of};
+ghost use Rattle.kinds.specs.Refusals.{number_of, answer_of};
+ghost use Rattle.rounds.specs.Stepped.{Stepped};
 
 use crate::lines::next_on;
-use crate::rows::{
-    noticed_at, outs_at, put_notice, put_take, sent_at, silent_at, state_at, taken_at,
-};
-use bench::{LEFT, RUNNING, Waiting};
-use kinds::AnswerNo;
-use sets::has;
-use tables::{Benches, Logs};
+use bench::{LEFT, RUNNING};
+use kinds::{BenchNo, Refusal, Size};
+use sets::{TablePlace, has};
+use tables::Tables;
 
-// The bench at k takes the next message of the line from the bench at j: six words are read, and one is written.
-pub(crate) fn arrive_at(benches: &mut Benches, logs: &mut Logs, k: usize, j: usize) -> AnswerNo
-    requires { (k < places) × (j < places) }
-    ensures { Acts result benches.new logs.new (arrive_at benches.old logs.old k j) }
+// Checks 1, 2, 3, 9, 8. The bench takes the next message of the line.
+#[tactic(auto, unfolding(tables::specs::Steps::table_step, tables::specs::Steps::at_benches, tables::specs::Steps::arrive_at, tables::specs::Steps::take_next))]
+pub fn arrive(tables: &mut Tables, bench: BenchNo, from: BenchNo, size: Size) -> Result<(), Refusal>
+    ensures { Stepped (benches_of size) (answer_of result) tables.old tables.new (published.arrive bench.0 from.0) }
 {
-    if RUNNING < state_at(&*benches, k) {
-        return 3;
+    let (k, j) = two_places(bench, from, size)?;
+    let here = &tables.benches[k.index];
+    if RUNNING < here.state {
+        return Err(Refusal::WrongState);
     }
-    if has(noticed_at(&*benches, k), j) {
-        return 9;
+    if has(here.noticed, j.index) {
+        return Err(Refusal::LineClosed);
     }
-    let n = taken_at(&*benches, k, j);
-    let ended = has(outs_at(&*benches, k), j);
-    let sent = sent_at(&*benches, j);
-    let out = silent_at(&*benches, j);
-    match next_on(&*logs, j, n, ended, sent, out) {
-        Waiting::Next(m) => {
-            put_take(&mut *benches, k, j, m);
-            0
-        }
-        Waiting::Nothing => 8,
-    }
+    let m = next_on(&*tables, k, j).ok_or(Refusal::NothingWaits)?;
+    tables.benches[k.index].take_at(j, m);
+    Ok(())
 }
 
-// The bench at k learns that the bench at j has failed.
-pub(crate) fn notice_at(benches: &mut Benches, logs: &mut Logs, k: usize, j: usize) -> AnswerNo
-    requires { (k < places) × (j < places) }
-    ensures { Acts result benches.new logs.new (notice_at benches.old logs.old k j) }
+// Checks 1, 2, 3, 10, 9. The bench learns that the other has failed.
+#[tactic(auto, unfolding(tables::specs::Steps::table_step, tables::specs::Steps::at_benches, tables::specs::Steps::notice_at))]
+pub fn notice(tables: &mut Tables, bench: BenchNo, from: BenchNo, size: Size) -> Result<(), Refusal>
+    ensures { Stepped (benches_of size) (answer_of result) tables.old tables.new (published.notice bench.0 from.0) }
 {
-    if RUNNING < state_at(&*benches, k) {
-        return 3;
+    let (k, j) = two_places(bench, from, size)?;
+    if RUNNING < tables.benches[k.index].state {
+        return Err(Refusal::WrongState);
     }
-    if state_at(&*benches, j) <= LEFT {
-        return 10;
+    if tables.benches[j.index].state <= LEFT {
+        return Err(Refusal::HasNotFailed);
     }
-    if has(noticed_at(&*benches, k), j) {
-        return 9;
+    if has(tables.benches[k.index].noticed, j.index) {
+        return Err(Refusal::LineClosed);
     }
-    put_notice(&mut *benches, k, j);
-    0
+    tables.benches[k.index].notice_at(j);
+    Ok(())
+}
+
+// Checks 1 and 2, and the places of the bench and of the sender.
+fn two_places(
+    bench: BenchNo,
+    from: BenchNo,
+    size: Size,
+) -> Result<(TablePlace, TablePlace), Refusal>
+    ensures { let known = is_bench (benches_of size) bench.0 && is_bench (benches_of size) from.0 in
+        MatchResult result
+        (λ p. (known ≡ true) × (eqb bench.0 from.0 ≡ false) × (p.0.index ≡ bench.0 - 1) × (p.1.index ≡ from.0 - 1))
+        (λ r. (cond known (eqb bench.0 from.0) true ≡ true) × (number_of r ≡ cond known 2 1)) }
+{
+    let k = TablePlace::of(bench, size)?;
+    let j = TablePlace::of(from, size)?;
+    if bench.0 == from.0 {
+        Err(Refusal::SameBench)
+    } else {
+        Ok((k, j))
+    }
 }

@@ -1,50 +1,57 @@
-// Abstain, leave and fail at the bench's place: check 3, then OUT, or silence.
+// Abstain, leave and fail: check 3, then OUT, or silence.
 
-ghost use Rattle.std.specs.Prelude.{◌<◌};
-ghost use Rattle.kinds.specs.Sizes.{places};
-ghost use Rattle.tables.specs.Steps.{Acts, abstain_at, leave_at, fail_at};
+ghost use Rattle.published.specs.Rounds as published;
+ghost use Rattle.kinds.specs.Sizes.{benches_of};
+ghost use Rattle.kinds.specs.Refusals.{answer_of};
+ghost use Rattle.rounds.specs.Stepped.{Stepped};
 
-use crate::rows::{put_state, silent_at, state_at};
 use crate::sends::part;
 use bench::{ABSTAINED, FAILED, FRESH, LEFT};
-use kinds::AnswerNo;
-use tables::{Benches, Logs};
+use kinds::{BenchNo, Refusal, Size};
+use sets::TablePlace;
+use tables::Tables;
 
-pub(crate) fn abstain_at(benches: &mut Benches, logs: &mut Logs, k: usize) -> AnswerNo
-    requires { k < places }
-    ensures { Acts result benches.new logs.new (abstain_at benches.old logs.old k) }
+// Checks 1, 3.
+#[tactic(auto, unfolding(tables::specs::Steps::table_step, tables::specs::Steps::at_bench, tables::specs::Steps::abstain_at))]
+pub fn abstain(tables: &mut Tables, bench: BenchNo, size: Size) -> Result<(), Refusal>
+    ensures { Stepped (benches_of size) (answer_of result) tables.old tables.new (published.abstain bench.0) }
 {
-    if state_at(&*benches, k) != FRESH {
-        return 3;
+    let k = TablePlace::of(bench, size)?;
+    if tables.benches[k.index].state != FRESH {
+        return Err(Refusal::WrongState);
     }
-    part(&mut *benches, &mut *logs, k, ABSTAINED);
-    0
+    part(tables, k, ABSTAINED);
+    Ok(())
 }
 
-// OUT is sent once: a bench that has decided or abstained only changes its state.
-pub(crate) fn leave_at(benches: &mut Benches, logs: &mut Logs, k: usize) -> AnswerNo
-    requires { k < places }
-    ensures { Acts result benches.new logs.new (leave_at benches.old logs.old k) }
+// Checks 1, 3. OUT is sent once: a bench that has decided or abstained only changes its state.
+#[tactic(auto, unfolding(tables::specs::Steps::table_step, tables::specs::Steps::at_bench, tables::specs::Steps::leave_at, bench::specs::Changes::in_state))]
+pub fn leave(tables: &mut Tables, bench: BenchNo, size: Size) -> Result<(), Refusal>
+    ensures { Stepped (benches_of size) (answer_of result) tables.old tables.new (published.leave bench.0) }
 {
-    if ABSTAINED < state_at(&*benches, k) {
-        return 3;
+    let k = TablePlace::of(bench, size)?;
+    let here = &mut tables.benches[k.index];
+    if ABSTAINED < here.state {
+        return Err(Refusal::WrongState);
     }
-    if silent_at(&*benches, k) == 1 {
-        put_state(&mut *benches, k, LEFT);
-        return 0;
+    if here.silent == 1 {
+        here.state = LEFT;
+    } else {
+        part(tables, k, LEFT);
     }
-    part(&mut *benches, &mut *logs, k, LEFT);
-    0
+    Ok(())
 }
 
-// A bench fails in silence.
-pub(crate) fn fail_at(benches: &mut Benches, logs: &mut Logs, k: usize) -> AnswerNo
-    requires { k < places }
-    ensures { Acts result benches.new logs.new (fail_at benches.old logs.old k) }
+// Checks 1, 3. A bench fails in silence.
+#[tactic(auto, unfolding(tables::specs::Steps::table_step, tables::specs::Steps::at_bench, tables::specs::Steps::fail_at, bench::specs::Changes::in_state))]
+pub fn fail(tables: &mut Tables, bench: BenchNo, size: Size) -> Result<(), Refusal>
+    ensures { Stepped (benches_of size) (answer_of result) tables.old tables.new (published.fail bench.0) }
 {
-    if ABSTAINED < state_at(&*benches, k) {
-        return 3;
+    let k = TablePlace::of(bench, size)?;
+    let here = &mut tables.benches[k.index];
+    if ABSTAINED < here.state {
+        return Err(Refusal::WrongState);
     }
-    put_state(&mut *benches, k, FAILED);
-    0
+    here.state = FAILED;
+    Ok(())
 }

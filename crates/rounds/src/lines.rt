@@ -1,68 +1,54 @@
 // A line is the sender's log and the receiver's count: what waits on it, and what a bench has heard of its round.
 
-ghost use Rattle.std.specs.Prelude.{◌≡◌, ◌<◌};
-ghost use Rattle.kinds.specs.Sizes.{benches_of, places};
-ghost use Rattle.tables.specs.Rows.{rows, logs};
-ghost use Rattle.tables.specs.Lines.{waiting_of, heard_of};
+ghost use Rattle.std.specs.Prelude.{◌≡◌};
+ghost use Rattle.kinds.specs.Sizes.{benches_of};
+ghost use Rattle.tables.specs.Lines.{heard_of};
+ghost use Rattle.tables.specs.Steps.{next_on};
 
-use crate::rows::{round_at, taken_at};
-use bench::{Heard, Waiting};
-use kinds::{DEPTH, Message, PLACES, RoundMessage, RoundNo, Size, SlotNo};
-use sets::{benches_of, only};
-use tables::{Benches, Logs};
+use bench::{Bench, Heard, NO_ENTRY};
+use kinds::{DEPTH, Message, PLACES, RoundMessage, RoundNo, Size};
+use sets::{TablePlace, benches_of, has, only};
+use tables::{Logs, Tables};
 
-// What waits on the line from the bench at j, which has sent round messages up to `sent`, and OUT if `out` is 1: behind n round
-// messages taken, and OUT if `ended`.
-pub(crate) fn next_on(log: &Logs, j: usize, n: u32, ended: bool, sent: u32, out: u32) -> Waiting
-    requires { j < places }
-    ensures { result ≡ waiting_of (logs log.now j) n ended sent out }
+// What waits for the bench at k on the line from the bench at j.
+#[tactic(auto, unfolding(tables::specs::Steps::next_on, tables::specs::Lines::waiting_of))]
+pub(crate) fn next_on(tables: &Tables, k: TablePlace, j: TablePlace) -> Option<Message>
+    ensures { result ≡ next_on tables.now.benches tables.now.logs k.index j.index }
 {
-    if n < sent {
-        let at = n as usize;
-        if at < DEPTH {
-            let m = RoundMessage {
-                round: RoundNo(n + 1),
-                value: SlotNo(log[j][at]),
-                world: log[j][at + DEPTH],
-            };
-            return Waiting::Next(Message::Round(m));
-        }
-        return Waiting::Nothing;
+    let to = &tables.benches[k.index];
+    let from = &tables.benches[j.index];
+    let n = to.taken[j.index];
+    if n < from.sent {
+        let said = tables.logs[j.index].get(n as usize)?;
+        return Some(Message::Round(RoundMessage {
+            round: RoundNo(n + 1),
+            value: said.value,
+            world: said.world,
+        }));
     }
-    if out != 1 {
-        return Waiting::Nothing;
-    }
-    if ended {
-        return Waiting::Nothing;
-    }
-    Waiting::Next(Message::Out)
+    (from.silent == 1 && !has(to.outs, j.index)).then_some(Message::Out)
 }
 
-// What the bench at k has heard of its round: of each sender whose message of that round it has taken.
-pub(crate) fn heard_by(benches: &Benches, log: &Logs, k: usize, size: Size) -> Heard
-    requires { k < places }
-    ensures { result ≡ heard_of (benches_of size) log.now (rows places benches.now k) }
+// What a bench has heard of its round: of each sender whose message of that round it has taken.
+#[tactic(auto, using(common::proofs::Places::only_small, crate::proofs::Hearing::heard_more, crate::proofs::Hearing::heard_same), unfolding(tables::specs::Lines::heard_of, tables::specs::Lines::heard_to, tables::specs::Lines::with_message))]
+pub(crate) fn heard_by(bench: &Bench, logs: &Logs, size: Size) -> Heard
+    ensures { result ≡ heard_of (benches_of size) logs.now bench.now }
 {
-    let r = round_at(benches, k);
-    let mut h = Heard {
+    let r = bench.round.0;
+    let mut heard = Heard {
         set: 0,
-        values: [0; PLACES],
-        worlds: [0; PLACES],
+        entries: [NO_ENTRY; PLACES],
     };
-    if r < 1 {
-        return h;
-    }
-    if (DEPTH as u32) < r {
-        return h;
+    if r < 1 || r > DEPTH as u32 {
+        return heard;
     }
     let at = (r - 1) as usize;
     let n = benches_of(size) as usize;
     for j in 0..n {
-        if r <= taken_at(benches, k, j) {
-            h.set = h.set | only(j);
-            h.values[j] = log[j][at];
-            h.worlds[j] = log[j][at + DEPTH];
+        if r <= bench.taken[j] {
+            heard.set |= only(j);
+            heard.entries[j] = logs[j][at];
         }
     }
-    h
+    heard
 }

@@ -1,63 +1,69 @@
 // A bench sends: its message stands in its log, and it has it at once.
 
-ghost use Rattle.std.specs.Prelude.{◌<◌};
 ghost use Rattle.kinds.specs.declared.Message.TheVariants.{Out};
 ghost use Rattle.bench.specs.Changes.{in_state, in_round};
-ghost use Rattle.kinds.specs.Sizes.{places};
 ghost use Rattle.tables.specs.Rows.{rows};
 ghost use Rattle.tables.specs.Lines.{message};
 ghost use Rattle.tables.specs.Steps.{Acts, acted, sent_of};
-ghost use Rattle.rounds.specs.Sending.{HasRoom, ChangesOwn};
+ghost use Rattle.rounds.specs.Sending.{HasRoom};
 
-use crate::rows::{load, put_parted, put_spoken};
-use bench::{Bench, RUNNING};
-use kinds::{DEPTH, Message, RoundMessage, RoundNo, SlotNo};
-use tables::{Benches, Logs};
+use bench::{Bench, Entry, RUNNING};
+use kinds::{Message, RoundMessage, RoundNo, SlotNo};
+use sets::TablePlace;
+use tables::Tables;
 
-// The bench at k, now b, sends a message.
-pub(crate) fn send(benches: &mut Benches, logs: &mut Logs, k: usize, b: Bench, m: Message)
-    requires { (k < places) × HasRoom m × ChangesOwn b (rows places benches.old k) }
-    ensures { Acts 0 benches.new logs.new (acted (sent_of benches.old logs.old k b m)) }
+// The bench at k, now `bench`, sends a message.
+#[tactic(auto, unfolding(tables::specs::Steps::sent_of, bench::specs::Changes::sent_to, bench::specs::Changes::sent_out))]
+pub(crate) fn send(tables: &mut Tables, k: TablePlace, mut bench: Bench, m: Message)
+    requires { HasRoom m }
+    ensures { Acts 0 tables.new.benches tables.new.logs (acted (sent_of tables.old.benches tables.old.logs k.index bench m)) }
 {
+    bench.take_at(k, m);
     match m {
-        Message::Round(rm) => {
-            let n = rm.round.0;
-            let at = (n - 1) as usize;
-            logs[k][at] = rm.value.0;
-            logs[k][at + DEPTH] = rm.world;
-            put_spoken(&mut *benches, k, b, n);
+        Message::Round(
+            RoundMessage {
+                round,
+                value,
+                world,
+            },
+        ) => {
+            bench.sent = round.0;
+            tables.logs[k.index][(round.0 - 1) as usize] = Entry { value, world };
         }
-        Message::Out => {
-            put_parted(&mut *benches, k, b);
-        }
+        Message::Out => bench.silent = 1,
     }
+    tables.benches[k.index] = bench;
 }
 
 // The bench at k runs in round 1 and sends that round's message.
-pub(crate) fn begin(benches: &mut Benches, logs: &mut Logs, k: usize, value: SlotNo, world: u32)
-    requires { k < places }
-    ensures { Acts 0 benches.new logs.new (acted (sent_of benches.old logs.old k (in_round 1 value world (rows places benches.old k)) (message 1 value.0 world))) }
+#[tactic(auto, unfolding(bench::specs::Changes::in_round))]
+pub(crate) fn begin(tables: &mut Tables, k: TablePlace, value: SlotNo, world: u32)
+    ensures { Acts 0 tables.new.benches tables.new.logs (acted (sent_of tables.old.benches tables.old.logs k.index (in_round 1 value world (rows tables.old.benches k.index)) (message 1 value.0 world))) }
 {
     let round = RoundNo(1);
-    let mut b = load(&*benches, k);
-    b.state = RUNNING;
-    b.round = round;
-    b.value = value;
-    b.world = world;
-    let m = RoundMessage {
-        round,
-        value,
-        world,
-    };
-    send(&mut *benches, &mut *logs, k, b, Message::Round(m));
+    let mut bench = tables.benches[k.index];
+    bench.state = RUNNING;
+    bench.round = round;
+    bench.value = value;
+    bench.world = world;
+    send(
+        tables,
+        k,
+        bench,
+        Message::Round(RoundMessage {
+            round,
+            value,
+            world,
+        }),
+    );
 }
 
 // The bench at k goes to a state and sends OUT.
-pub(crate) fn part(benches: &mut Benches, logs: &mut Logs, k: usize, state: u32)
-    requires { k < places }
-    ensures { Acts 0 benches.new logs.new (acted (sent_of benches.old logs.old k (in_state state (rows places benches.old k)) Out)) }
+#[tactic(auto, unfolding(bench::specs::Changes::in_state))]
+pub(crate) fn part(tables: &mut Tables, k: TablePlace, state: u32)
+    ensures { Acts 0 tables.new.benches tables.new.logs (acted (sent_of tables.old.benches tables.old.logs k.index (in_state state (rows tables.old.benches k.index)) Out)) }
 {
-    let mut b = load(&*benches, k);
-    b.state = state;
-    send(&mut *benches, &mut *logs, k, b, Message::Out);
+    let mut bench = tables.benches[k.index];
+    bench.state = state;
+    send(tables, k, bench, Message::Out);
 }

@@ -1,47 +1,44 @@
-// Start at a place.
+// Start: what is asked of the value and of the world, and of the benches that have started.
 
-ghost use Rattle.std.specs.Prelude.{◌<◌};
-ghost use Rattle.kinds.specs.Sizes.{benches_of, places};
-ghost use Rattle.tables.specs.Steps.{Acts, start_at};
+ghost use Rattle.published.specs.Rounds as published;
+ghost use Rattle.kinds.specs.Sizes.{benches_of};
+ghost use Rattle.kinds.specs.Refusals.{answer_of};
+ghost use Rattle.rounds.specs.Stepped.{Stepped};
 
-use crate::rows::state_at;
 use crate::sends::begin;
 use bench::FRESH;
-use kinds::{AnswerNo, Size, SlotNo};
+use kinds::{BenchNo, Refusal, Size, SlotNo};
 use reads::worlds::{lacked_by_one, lacks_one};
-use sets::{fits, has};
-use tables::{Benches, Logs};
+use sets::{TablePlace, fits, has};
+use tables::Tables;
 
-// The bench at k starts.
-pub(crate) fn start_at(
-    benches: &mut Benches,
-    logs: &mut Logs,
-    k: usize,
+// Checks 1, 3, 4, 5, 6, 7.
+#[tactic(auto, unfolding(tables::specs::Steps::table_step, tables::specs::Steps::at_bench, tables::specs::Steps::start_at))]
+pub fn start(
+    tables: &mut Tables,
+    bench: BenchNo,
     value: SlotNo,
     world: u32,
     size: Size,
-) -> AnswerNo
-    requires { k < places }
-    ensures { Acts result benches.new logs.new (start_at (benches_of size) benches.old logs.old value.0 world k) }
+) -> Result<(), Refusal>
+    ensures { Stepped (benches_of size) (answer_of result) tables.old tables.new (published.start bench.0 value.0 world) }
 {
-    if state_at(&*benches, k) != FRESH {
-        return 3;
+    let k = TablePlace::of(bench, size)?;
+    if tables.benches[k.index].state != FRESH {
+        return Err(Refusal::WrongState);
     }
     if 65535 < value.0 {
-        return 4;
+        return Err(Refusal::LargeValue);
     }
-    if !fits(world, size) {
-        return 5;
+    if !fits(world, size) || !has(world, k.index) {
+        return Err(Refusal::WrongWorld);
     }
-    if !has(world, k) {
-        return 5;
+    if lacks_one(&tables.benches, world, size) {
+        return Err(Refusal::WorldLacksOne);
     }
-    if lacks_one(&*benches, world, size) {
-        return 6;
+    if lacked_by_one(&*tables, k.index, size) {
+        return Err(Refusal::LackedByOne);
     }
-    if lacked_by_one(&*benches, &*logs, k, size) {
-        return 7;
-    }
-    begin(&mut *benches, &mut *logs, k, value, world);
-    0
+    begin(tables, k, value, world);
+    Ok(())
 }

@@ -1,44 +1,29 @@
-// Turn at the bench's place: what the bench makes of what it has heard, and what it sends.
+// Turn: what the bench makes of what it has heard, and what it sends.
 
-ghost use Rattle.std.specs.Prelude.{◌<◌};
-ghost use Rattle.kinds.specs.Sizes.{benches_of, places};
-ghost use Rattle.tables.specs.Steps.{Acts, turn_at};
+ghost use Rattle.published.specs.Rounds as published;
+ghost use Rattle.kinds.specs.Sizes.{benches_of};
+ghost use Rattle.kinds.specs.Refusals.{answer_of};
+ghost use Rattle.rounds.specs.Stepped.{Stepped};
 
 use crate::lines::heard_by;
-use crate::rows::{load, state_at};
 use crate::sends::send;
-use bench::{Answer, RUNNING};
-use kinds::{AnswerNo, Size};
-use tables::{Benches, Logs};
+use bench::RUNNING;
+use kinds::{BenchNo, Refusal, Size};
+use sets::TablePlace;
+use tables::Tables;
 
-// The state is looked at first, since a bench that is not running needs no more of its row.
-pub(crate) fn turn_at(benches: &mut Benches, logs: &mut Logs, k: usize, size: Size) -> AnswerNo
-    requires { k < places }
-    ensures { Acts result benches.new logs.new (turn_at (benches_of size) benches.old logs.old k) }
+// Checks 1, 3, 11. The state is looked at first, since nothing need be gathered from the logs for a bench that is not running.
+#[tactic(auto, unfolding(tables::specs::Steps::table_step, tables::specs::Steps::at_bench, tables::specs::Steps::turn_at, tables::specs::Steps::turn_on, tables::specs::Steps::turn_by, bench::specs::Turns::turn_of))]
+pub fn turn(tables: &mut Tables, bench: BenchNo, size: Size) -> Result<(), Refusal>
+    ensures { Stepped (benches_of size) (answer_of result) tables.old tables.new (published.turn bench.0) }
 {
-    if state_at(&*benches, k) != RUNNING {
-        return 3;
+    let k = TablePlace::of(bench, size)?;
+    let here = &tables.benches[k.index];
+    if here.state != RUNNING {
+        return Err(Refusal::WrongState);
     }
-    whole_turn_at(&mut *benches, &mut *logs, k, size)
-}
-
-fn whole_turn_at(benches: &mut Benches, logs: &mut Logs, k: usize, size: Size) -> AnswerNo
-    requires { k < places }
-    ensures { Acts result benches.new logs.new (turn_at (benches_of size) benches.old logs.old k) }
-{
-    let b = load(&*benches, k);
-    let turned = b.turn(heard_by(&*benches, &*logs, k, size), size);
-    let next = turned.bench;
-    let answer = turned.answer;
-    match answer {
-        Answer::Decided(_, m) => {
-            send(&mut *benches, &mut *logs, k, next, m);
-            0
-        }
-        Answer::Went(m) => {
-            send(&mut *benches, &mut *logs, k, next, m);
-            0
-        }
-        Answer::Refused(number) => number,
-    }
+    let turned = here.turn(heard_by(here, &tables.logs, size), size);
+    let m = turned.answer?.message();
+    send(tables, k, turned.bench, m);
+    Ok(())
 }

@@ -1,20 +1,19 @@
--- The lines of the answers: how many bytes they have, and how they are stored one after another. Assumes nothing.
+-- The lines of the answers: how many bytes they have, and how they are written one after another. Assumes nothing.
 use Prim.Native.Nat.{ℕ, suc, ◌+◌, ◌*◌, ◌≤◌, ◌<◌}
 use native.Mathlib.Omega.{arith}
 use native.Mathlib.Nat.{add-zero}
 use native.Mathlib.Numerals.{add-one}
 use mathlib.Core.Bool.{true}
-use mathlib.Core.List.{List, [], ◌∷◌, ◌++◌}
+use mathlib.Core.List.{List, [], ◌++◌}
 use mathlib.Core.Path.{◌≡◌, refl, sym, ap, ◌∙◌}
 use lib.Dec.{leb}
 use lib.ListN.{length, get_or, drop, length-append, drop_of_length-le}
 use borrow.Author.Tests.{le-leb}
 use Rattle.spelling.specs.Numbers.{digits}
-use Rattle.spelling.specs.Stored.{Stored}
 use Rattle.spelling.proofs.Places.{cut}
-use Rattle.spelling.proofs.Stores.{Left, left_start, left_step, left_end, left_room}
-use Rattle.spelling.proofs.Puts.{Put, put_then, put_last}
-use Rattle.spelling.specs.Answers.{answer_text}
+use Rattle.room.specs.declared.writer.Writer.{Writer}
+use Rattle.room.specs.Writes.{Writes, Holds}
+use Rattle.room.proofs.Writers.{Going, going_start, going_step, going_holds, going_end}
 use Rattle.reports.specs.RunReport.{answer_line, answer_lines}
 use Rattle.reports.proofs.RunLines.{line_length_lem, line_short, lines_short}
 
@@ -23,11 +22,6 @@ use Rattle.reports.proofs.RunLines.{line_length_lem, line_short, lines_short}
 -- measured by its two numbers
 pub line_measured : (k a m n : ℕ) → m ≡ length (digits k) → n ≡ length (digits a) → 14 + m + n ≡ length (answer_line k a)
 line_measured k a m n p q = omega (arith, line_length_lem k a)
-
-pub line_stored : (k a : ℕ) {l l₁ l₂ : List ℕ} {at n₁ n₂ : ℕ} → Put l at (answer_text k a) n₁ l₁ → Put l₁ n₁ (10 ∷ []) n₂ l₂
-    → at + length (answer_line k a) ≤ length l → Stored l at (answer_line k a) n₂ l₂
-unfolding answer_line
-line_stored k a p q h = put_then (answer_text k a) (10 ∷ []) p (put_last _ q) h
 
 -- ---- the lines from a place on
 
@@ -52,19 +46,17 @@ module _ (l : List ℕ) (n m : ℕ) where
 
 -- the lines of the first i answers have n bytes
 pub record Measured (l : List ℕ) (i n : ℕ) : Type 0 where
-  pub upto : i ≤ length l
   pub short : n ≤ 34 * i
   pub total : length (answer_lines 1 l) ≡ n + length (answer_lines (i + 1) (drop i l))
 
 module _ (l : List ℕ) where
   pub measured_none : Measured l 0 0
-  measured_none = record { upto = omega arith; short = omega arith; total = omega arith }
+  measured_none = record { short = omega arith; total = omega arith }
 
   module _ (i n : ℕ) (p : Measured l i n) where
     pub measured_more : i < length l → (d : ℕ) → d ≡ length (answer_line (i + 1) (get_or l i 0)) → Measured l (i + 1) (n + d)
     measured_more h d e =
         record {
-          upto = omega arith;
           short = omega (arith, p.short, line_short (i + 1) (get_or l i 0) d e);
           total = p.total ∙ rw (lines_more l (i + 1) i h, length-append, ← add-one (i + 1)) (omega arith);
         }
@@ -72,26 +64,25 @@ module _ (l : List ℕ) where
     pub measured_all : length l ≤ i → n ≡ length (answer_lines 1 l)
     measured_all h = sym (p.total ∙ rw (lines_none l (i + 1) i h) (add-zero n))
 
--- ---- stored line by line
+-- ---- written line by line
 
--- the lines of the first i answers are stored in the room, up to a place; room₀ held what was there before
-pub record Storing (room₀ l room : List ℕ) (at i : ℕ) : Type 0 where
-  pub upto : i ≤ length l
-  pub left : Left room₀ 0 (answer_lines 1 l) room at (answer_lines (i + 1) (drop i l))
+-- the lines from the answer i on are left to be written
+abbrev pub Writing : Writer → List ℕ → Writer → ℕ → Type 0
+Writing first l out i = Going first (answer_lines 1 l) out (answer_lines (i + 1) (drop i l))
 
-module _ (room₀ l : List ℕ) where
-  pub storing_none : Storing room₀ l room₀ 0 0
-  storing_none = record { upto = omega arith; left = left_start room₀ 0 (answer_lines 1 l) }
+module _ (first : Writer) (l : List ℕ) where
+  pub writing_none : Writing first l first 0
+  writing_none = going_start first (answer_lines 1 l)
 
-  module _ (room : List ℕ) (at i : ℕ) (p : Storing room₀ l room at i) where
-    more : i < length l → Left room₀ 0 (answer_lines 1 l) room at (answer_line (i + 1) (get_or l i 0) ++ answer_lines (i + 1 + 1) (drop (i + 1) l))
-    more h = rw (lines_more l (i + 1) i h, ← add-one (i + 1)) at p.left
+  module _ (out : Writer) (i : ℕ) (p : Writing first l out i) where
+    more : i < length l → Going first (answer_lines 1 l) out (answer_line (i + 1) (get_or l i 0) ++ answer_lines (i + 1 + 1) (drop (i + 1) l))
+    more h = rw (lines_more l (i + 1) i h, ← add-one (i + 1)) at p
 
-    pub storing_room : i < length l → length (answer_lines 1 l) ≤ length room₀ → at + length (answer_line (i + 1) (get_or l i 0)) ≤ length room
-    storing_room h r = left_room (answer_line (i + 1) (get_or l i 0)) (answer_lines (i + 1 + 1) (drop (i + 1) l)) (more h) (omega arith)
+    pub writing_room : i < length l → Holds first (answer_lines 1 l) → Holds out (answer_line (i + 1) (get_or l i 0))
+    writing_room h r = going_holds (answer_line (i + 1) (get_or l i 0)) (answer_lines (i + 1 + 1) (drop (i + 1) l)) (more h) r
 
-    pub storing_more : i < length l → (room' : List ℕ) (next : ℕ) → Stored room at (answer_line (i + 1) (get_or l i 0)) next room' → Storing room₀ l room' next (i + 1)
-    storing_more h room' next s = record { upto = omega arith; left = left_step (answer_lines (i + 1 + 1) (drop (i + 1) l)) (more h) s }
+    pub writing_more : i < length l → (next : Writer) → Writes out (answer_line (i + 1) (get_or l i 0)) next → Writing first l next (i + 1)
+    writing_more h next s = going_step (answer_lines (i + 1 + 1) (drop (i + 1) l)) (more h) s
 
-    pub storing_all : length l ≤ i → Stored room₀ 0 (answer_lines 1 l) at room
-    storing_all h = left_end (rw (lines_none l (i + 1) i h) at p.left)
+    pub writing_all : length l ≤ i → Writes first (answer_lines 1 l) out
+    writing_all h = going_end (rw (lines_none l (i + 1) i h) at p)

@@ -1,25 +1,32 @@
 -- The report from its parts: the lines of the answers, and what stands behind them. Assumes nothing.
+use Rattle.bench.specs.declared.Bench.{Bench}
+use Rattle.bench.specs.declared.Entry.{Entry}
 use Prim.Native.Nat.{ℕ, ◌+◌, ◌*◌, ◌≤◌, ◌<◌}
 use native.Mathlib.Omega.{arith}
 use mathlib.Core.List.{List, ◌++◌}
-use mathlib.Core.Path.{◌≡◌, refl, sym}
+use mathlib.Core.Path.{◌≡◌, refl, sym, ap}
 use lib.ListN.{length, take, length-append}
 use lib.Seq.{length-take-le}
 use Rattle.kinds.specs.Sizes.{benches_of, places}
 use Rattle.kinds.specs.declared.Size.{Size}
 use Rattle.kinds.proofs.Sizes.{benches_fit}
 use Rattle.spelling.specs.Stored.{Stored}
-use Rattle.spelling.proofs.Stores.{stored_then, stored_length}
-use Rattle.spelling.proofs.Puts.{Put, put_last, front}
-use Rattle.reports.specs.declared.Reported.TheVariants.{Length, Refused}
+use Rattle.spelling.proofs.Stores.{stored_length}
+use Rattle.spelling.proofs.Puts.{front}
+use Rattle.room.specs.declared.writer.Writer.{Writer}
+use Rattle.room.specs.Writes.{Writes, Puts}
+use Rattle.room.proofs.Writers.{writes_then, put_last}
+use Rattle.std.specs.Prelude.{Ok, Err}
+use Rattle.kinds.specs.declared.Refusal.TheVariants.{LongText, ShortRoom}
+use Rattle.kinds.specs.Refusals.{answer_of}
 use Rattle.spelling.specs.Answers.{totals}
 use Rattle.reports.specs.RunReport.{answer_lines, refused_in, totals_of, run_report_for, run_report_of}
-use Rattle.reports.specs.Reported.{Reports, longest, number_of, length_of, number_for, length_for, room_after}
+use Rattle.reports.specs.Reported.{Reports, longest, length_of, number_for, length_for, room_after}
 use Rattle.run_report.specs.Parts.{Played, row_lines}
 use Rattle.run_report.proofs.BenchLines.{row_lines_lem, rows_short}
 use Rattle.reports.proofs.RunLines.{totals_of_short}
 use Rattle.reports.proofs.Settled.{text_long, room_short, report_done}
-use Rattle.run_report.proofs.TotalsLine.{totals_stored}
+use Rattle.run_report.proofs.TotalsLine.{totals_written}
 
 -- ---- the parts
 
@@ -33,27 +40,25 @@ pub record Made (z : Size) (text answers rest : List ℕ) (m : ℕ) : Type 0 whe
 pub benches_room : (z : Size) (n : ℕ) → 67 * places + 36 ≤ n → 67 * benches_of z ≤ n
 benches_room z n h = omega (arith, benches_fit z)
 
-totals_room : (z : Size) {rest₀ rest₁ : List ℕ} (t : List (List ℕ)) {at : ℕ} → Stored rest₀ 0 (row_lines t (benches_of z)) at rest₁ → 67 * places + 36 ≤ length rest₀ → at + 36 ≤ length rest₁
-totals_room z t s h = omega (arith, s.place, stored_length s, rows_short t (benches_of z), benches_fit z)
+totals_room : (z : Size) {first out : Writer} (t : List Bench) → first.at ≡ 0 → Writes first (row_lines t (benches_of z)) out → 67 * places + 36 ≤ length first.room.now
+    → out.at + 36 ≤ length out.room.now
+totals_room z t e p h = omega (arith, p.stored.place, stored_length p.stored, rows_short t (benches_of z), benches_fit z)
 
 -- where there is room for two parts there is room for the first
 pub room_front : (k m : ℕ) {n : ℕ} → k + m ≤ n → k ≤ n
 room_front k m h = omega arith
 
--- a text has no more lines than bytes
-pub lines_few : {z : Size} {text answers : List ℕ} {t l : List (List ℕ)} {n : ℕ} → Played z text t l n answers → length text ≤ longest → length (take n answers) ≤ longest
-lines_few {answers = answers} {n = n} p h = omega (arith, p.few, length-take-le n answers p.inside)
-
--- what stands behind them is stored from the tables and the answers after the text was played: k lines, r of them refused
-pub made : {z : Size} {text answers rest₀ rest₁ rest : List ℕ} {t l : List (List ℕ)} {n at m r : ℕ} → Played z text t l n answers
-    → Stored rest₀ 0 (row_lines t (benches_of z)) at rest₁ → r ≡ refused_in (take n answers) → Put rest₁ at (totals n r) m rest
-    → 67 * places + 36 ≤ length rest₀ → Made z text (take n answers) rest m
+-- what stands behind them is written from the tables and the answers after the text was played, r of its lines refused
+pub made : {z : Size} {text answers : List ℕ} {t : List Bench} {l : List (List Entry)} {k r : ℕ} {first out end : Writer} → Played z text t l answers
+    → first.at ≡ 0 → Writes first (row_lines t (benches_of z)) out → k ≡ length answers → r ≡ refused_in answers → Puts out (totals k r) end
+    → 67 * places + 36 ≤ length first.room.now → Made z text answers end.room.now end.at
 unfolding run_report_of run_report_for
-made {z} {text} {answers} {rest₀} {t = t} {l} {n} {m = m} p s₁ er s₂ h =
+made {z} {text} {answers} {t} {l} {first = first} {end = end} p zero_is q₁ ek er q₂ h =
     let b = row_lines t (benches_of z) in
-    let w = totals_of (take n answers) in
-    let s = stored_then s₁ (totals_stored (take n answers) (sym (length-take-le n answers p.inside)) er (totals_room z t s₁ h) s₂) in
-    let i : length (b ++ w) ≤ 67 * places + 36 = omega (arith, length-append b w, rows_short t (benches_of z), benches_fit z, totals_of_short (take n answers)) in
+    let w = totals_of answers in
+    let q = writes_then q₁ (totals_written answers ek er (totals_room z t zero_is q₁ h) q₂) in
+    let s : Stored first.room.now 0 (b ++ w) end.at end.room.now = rw zero_is at q.stored in
+    let i : length (b ++ w) ≤ 67 * places + 36 = omega (arith, length-append b w, rows_short t (benches_of z), benches_fit z, totals_of_short answers) in
     record {
       fits = omega (arith, s.place, stored_length s);
       short = omega (arith, s.place);
@@ -64,10 +69,10 @@ made {z} {text} {answers} {rest₀} {t = t} {l} {n} {m = m} p s₁ er s₂ h =
 
 -- 23, in its parts
 module _ (text report room : List ℕ) (h : longest < length text) where
-  pub long_number : number_for text report room ≡ number_of (Refused 23)
+  pub long_number : number_for text report room ≡ answer_of {A = ℕ} (Err LongText)
   long_number = sym ((text_long text report room h).number)
 
-  pub long_length : length_for text report room ≡ length_of (Refused 23)
+  pub long_length : length_for text report room ≡ length_of (Err LongText)
   long_length = sym ((text_long text report room h).bytes)
 
   pub long_room : room_after text report room ≡ room
@@ -78,13 +83,14 @@ module _ (z : Size) (text room answers rest : List ℕ) (m : ℕ) (h : length te
   whole_length = rw (p.whole, length-append, length-take-le m rest p.fits) refl
 
   -- 22
-  pub parts_short : length room < length (answer_lines 1 answers) + m → Reports text (run_report_of z text) room (Refused 22) room
+  pub parts_short : length room < length (answer_lines 1 answers) + m → Reports text (run_report_of z text) room (Err ShortRoom) room
   parts_short r = room_short text (run_report_of z text) room h (omega (arith, whole_length))
 
   -- done
-  pub parts_done : length (answer_lines 1 answers) + m ≤ length room → {room₁ room₂ : List ℕ} {at next : ℕ} → Stored room 0 (answer_lines 1 answers) at room₁
-      → Put room₁ at (take m rest) next room₂ → Reports text (run_report_of z text) room (Length next) room₂
-  parts_done r s q =
+  pub parts_done : length (answer_lines 1 answers) + m ≤ length room → {first out end : Writer} → first.at ≡ 0 → first.room.now ≡ room
+      → Writes first (answer_lines 1 answers) out → Puts out (take m rest) end → (after : List ℕ) → after ≡ end.room.now
+      → Reports text (run_report_of z text) room (Ok end.at) after
+  parts_done r {first} {out} {end} zero_is held q₁ q₂ after e =
       let l = length-take-le m rest p.fits in
-      report_done text (run_report_of z text) room h (omega (arith, whole_length))
-      (rw p.whole (stored_then s (put_last (take m rest) q (omega (arith, s.place, stored_length s)))))
+      let q = writes_then q₁ (put_last (take m rest) q₂ (omega (arith, q₁.stored.place, stored_length q₁.stored, ap length held))) in
+      rw e (report_done text (run_report_of z text) room h (omega (arith, whole_length)) (rw (p.whole, ← held, ← zero_is) q.stored))

@@ -1,20 +1,23 @@
 // One line for each line of the text: its number from 1, and the answer.
 ghost use Rattle.std.specs.Prelude.{◌≡◌, ◌+◌, ◌*◌, ◌≤◌, leb, length};
-ghost use Rattle.spelling.specs.Stored.{Stored};
+ghost use Rattle.room.specs.Writes.{Holds, Writes};
 ghost use Rattle.kinds.specs.Sizes.{places};
-ghost use Rattle.reports.specs.Reported.{longest};
 ghost use Rattle.reports.specs.RunReport.{answer_line, answer_lines};
 
+use arrayvec::ArrayVec;
 use kinds::AnswerNo;
-use room::answer::put_answer;
-use room::bytes::put_bytes;
+use reports::LONGEST;
+use room::Writer;
 use room::decimal::number_length;
+
+// The answers of a text's lines: no text has more lines than bytes.
+pub(crate) type Answers = ArrayVec<AnswerNo, LONGEST>;
 
 // Whether the room holds the lines of the answers and n bytes behind them. No line is longer than 34 bytes, so that they are measured
 // for a short room alone.
-pub(crate) fn room_for(room: &[u8], answers: &[u8], n: usize) -> bool
-    requires { (length answers.now ≤ longest) × (n ≤ 67 * places + 36) }
-    ensures { result ≡ leb (length (answer_lines 1 answers.now) + n) (length room.now) }
+pub(crate) fn room_for(room: &[u8], answers: &Answers, n: usize) -> bool
+    requires { n ≤ 67 * places + 36 }
+    ensures { result ≡ leb (length (answer_lines 1 answers.now.items) + n) (length room.now) }
 {
     if 34 * answers.len() + n <= room.len() {
         return true;
@@ -23,15 +26,12 @@ pub(crate) fn room_for(room: &[u8], answers: &[u8], n: usize) -> bool
 }
 
 // How many bytes the lines of the answers have.
-fn answers_length(answers: &[u8]) -> usize
-    requires { length answers.now ≤ longest }
-    ensures { result ≡ length (answer_lines 1 answers.now) }
+fn answers_length(answers: &Answers) -> usize
+    ensures { result ≡ length (answer_lines 1 answers.now.items) }
 {
     let mut n = 0;
-    let mut i = 0;
-    while i < answers.len() {
-        n += answer_length(i as u32 + 1, answers[i]);
-        i += 1;
+    for (i, &answer) in answers.as_slice().iter().enumerate() {
+        n += answer_length(i as u32 + 1, answer);
     }
     n
 }
@@ -42,25 +42,20 @@ fn answer_length(line: u32, answer: AnswerNo) -> usize
     14 + number_length(line) + number_length(answer as u32)
 }
 
-// Stores the lines of the answers at the room's front, and answers the place behind them.
-pub(crate) fn store_answers(room: &mut [u8], answers: &[u8]) -> usize
-    requires answers_len_bound { length answers.now ≤ longest }
-    requires answers_in_bounds { length (answer_lines 1 answers.now) ≤ length room.old }
-    ensures { Stored room.old 0 (answer_lines 1 answers.now) result room.new }
+// Writes the lines of the answers.
+pub(crate) fn write_answers(out: &mut Writer, answers: &Answers)
+    requires { Holds out.old (answer_lines 1 answers.now.items) }
+    ensures { Writes out.old (answer_lines 1 answers.now.items) out.new }
 {
-    let mut at = 0;
-    let mut i = 0;
-    while i < answers.len() {
-        at = store_answer_line(room, at, i as u32 + 1, answers[i]);
-        i += 1;
+    for (i, &answer) in answers.as_slice().iter().enumerate() {
+        write_answer_line(out, i as u32 + 1, answer);
     }
-    at
 }
 
-fn store_answer_line(room: &mut [u8], at: usize, line: u32, answer: AnswerNo) -> usize
-    requires { at + length (answer_line line answer) ≤ length room.old }
-    ensures { Stored room.old at (answer_line line answer) result room.new }
+fn write_answer_line(out: &mut Writer, line: u32, answer: AnswerNo)
+    requires { Holds out.old (answer_line line answer) }
+    ensures { Writes out.old (answer_line line answer) out.new }
 {
-    let a = put_answer(room, at, line, answer);
-    put_bytes(room, a, b"\n")
+    out.put_answer(line, answer);
+    out.put_bytes(b"\n");
 }

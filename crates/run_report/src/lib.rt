@@ -1,6 +1,6 @@
 // A text played and its report, for a caller that lends the room. The text is read once and the report is written once: the answers
 // are kept, one byte a line, so that the room is measured before its first byte is written.
-// The contracts cite crate `reports`: `run_report_of`, the report that document 01 wants, and `Reports`.
+// The contracts cite crate `reports`: `run_report_of`, the report that docs/SCOPE.md wants, and `Reports`.
 
 #![tactic(auto)]
 
@@ -9,19 +9,18 @@ ghost use Rattle.kinds.specs.declared.Size.TheVariants.{Sixteen};
 ghost use Rattle.reports.specs.Reported.{Reports, length_for, room_after};
 ghost use Rattle.reports.specs.RunReport.{run_report_of};
 
-mod answers; // answers.rt: the answers' lines measured and stored
+mod answers; // answers.rt: the answers' lines measured and written
 mod benches; // benches.rt: the benches' lines
 mod playing; // playing.rt: a text played
 mod totals; // totals.rt: the lines not answered 0 counted
 
-use answers::{room_for, store_answers};
-use benches::store_benches;
-use kinds::{PLACES, Size};
+use answers::{Answers, room_for, write_answers};
+use benches::write_benches;
+use kinds::{PLACES, Refusal, Size};
 use playing::play;
-use reports::{LONGEST, Reported};
-use room::bytes::put_bytes;
-use room::totals::put_totals;
-use tables::{LOG, ROW};
+use reports::LONGEST;
+use room::Writer;
+use tables::Tables;
 use totals::refused_in;
 
 // Room for every report of a text that is not too long (`room_enough` of crate `reports`).
@@ -33,25 +32,29 @@ const REST: usize = 67 * PLACES + 36;
 // Plays the text and writes its report to the front of the room. A refusal leaves the room as it was, and so does the report all
 // that stands behind it.
 #[tactic(auto, using(crate::proofs::Reports::long_number, crate::proofs::Reports::long_length, crate::proofs::Reports::long_room))]
-pub fn report(text: &[u8], room: &mut [u8]) -> Reported
+pub fn report(text: &[u8], room: &mut [u8]) -> Result<usize, Refusal>
     ensures { Reports text.now (run_report_of Sixteen text.now) room.old result room.new }
 {
     if LONGEST < text.len() {
-        return Reported::Refused(23);
+        return Err(Refusal::LongText);
     }
-    let mut benches = [[0u32; ROW]; PLACES];
-    let mut logs = [[0u32; LOG]; PLACES];
-    let mut kept = [0u8; LONGEST];
-    let lines = play(text, &mut benches, &mut logs, &mut kept, Size::Sixteen);
-    let answers = &kept[..lines];
+    let mut tables = Tables::new();
+    let mut answers = Answers::new();
+    play(text, &mut tables, &mut answers, Size::Sixteen);
     let mut rest = [0u8; REST];
-    let last = store_benches(&mut rest, &benches, Size::Sixteen);
-    let n = put_totals(&mut rest, last, lines as u32, refused_in(answers));
-    if !room_for(room, answers, n) {
-        return Reported::Refused(22);
+    let mut end = Writer {
+        room: &mut rest,
+        at: 0,
+    };
+    write_benches(&mut end, &tables.benches, Size::Sixteen);
+    end.put_totals(answers.len() as u32, refused_in(&answers));
+    if !room_for(room, &answers, end.at) {
+        return Err(Refusal::ShortRoom);
     }
-    let at = store_answers(room, answers);
-    Reported::Length(put_bytes(room, at, &rest[..n]))
+    let mut out = Writer { room, at: 0 };
+    write_answers(&mut out, &answers);
+    out.put_bytes(end.written());
+    Ok(out.at)
 }
 
 // The same for C, to which crate run_report_c hands it on: the report's length, or 0 of a refusal. No report has the length 0.
@@ -59,8 +62,5 @@ pub fn report_or_zero(text: &[u8], room: &mut [u8]) -> usize
     ensures value { result ≡ length_for text.now (run_report_of Sixteen text.now) room.old }
     ensures room_after { room.new ≡ room_after text.now (run_report_of Sixteen text.now) room.old }
 {
-    match report(text, room) {
-        Reported::Length(n) => n,
-        Reported::Refused(_) => 0,
-    }
+    report(text, room).unwrap_or(0)
 }

@@ -1,3 +1,3 @@
 pub mod Answers
 pub mod Storing
-pub mod Verbs
+pub mod Lines

@@ -1,49 +1,50 @@
--- Parts of a line put one after another into a room that holds the line. Assumes nothing.
-use Prim.Native.Nat.{ℕ, ◌+◌, ◌≤◌, ◌<◌}
-use mathlib.Core.List.{List, [], ◌∷◌, ◌++◌, append_assoc}
-use lib.ListN.{length}
-use Rattle.spelling.specs.Numbers.{ascii, digits}
-use Rattle.spelling.specs.Spelling.{world_text}
-use Rattle.spelling.specs.Stored.{Stored}
-use Rattle.spelling.specs.Storing.{sep_at, sender_text, start_text}
-use Rattle.spelling.proofs.Members.{sep_comma, sep_none}
-use Rattle.spelling.proofs.Puts.{Put, put_room, put_then, put_last}
+-- A world written bench by bench. Assumes nothing.
+use Prim.Native.Nat.{ℕ, suc, ◌+◌, ◌-◌, ◌/◌, ◌%◌, ◌≤◌, ◌<◌}
+use native.Mathlib.Omega.{arith}
+use mathlib.Core.List.{[], ◌∷◌, ◌++◌, append_assoc}
+use mathlib.Core.Path.{◌≡◌}
+use lib.ListN.{length-append}
+use Rattle.spelling.specs.Numbers.{digits}
+use Rattle.spelling.specs.Spelling.{members, world_text}
+use Rattle.spelling.specs.Storing.{sep_at}
+use Rattle.spelling.proofs.Decimals.{digits_length}
+use Rattle.spelling.proofs.Members.{members_odd, members_even, members_nil, sep_comma, sep_none}
+use Rattle.room.specs.declared.writer.Writer.{Writer}
+use Rattle.room.specs.Writes.{Puts, Holds, Writes}
+use Rattle.room.proofs.Writers.{Going, going_start, going_put, going_holds, going_end, put_last}
 
--- ---- a member of a world, behind others or as the first
+-- the benches from place k on are left to be written, of a world that begins at `from`
+pub record WritingWorld (first : Writer) (from world : ℕ) (out : Writer) (rest k : ℕ) : Type 0 where
+  pub from_on : from ≤ out.at
+  pub going : Going first (world_text world) out (members (32 - k) (k + 1) rest (sep_at from out.at))
 
-module _ (b : ℕ) {from at next : ℕ} {l l' : List ℕ} (room : at + length (sep_at from at ++ digits b) ≤ length l) where
-  pub member_behind : from < at → Put l at ((44 ∷ []) ++ digits b) next l' → Stored l at (sep_at from at ++ digits b) next l'
-  member_behind h p = rw (sep_comma from at h) (put_last ((44 ∷ []) ++ digits b) p (rw (sep_comma from at h) at room))
+pub world_none : (first : Writer) (from world : ℕ) → from ≡ first.at → WritingWorld first from world first world 0
+unfolding world_text
+world_none first from world e =
+    record { from_on = omega arith; going = rw (sep_none from first.at (omega arith)) (going_start first (members 32 1 world [])) }
 
-  pub member_first : at ≤ from → Put l at (digits b) next l' → Stored l at (sep_at from at ++ digits b) next l'
-  member_first h p = rw (sep_none from at h) (put_last (digits b) p (rw (sep_none from at h) at room))
+module _ (first : Writer) (from world : ℕ) (out : Writer) (rest k : ℕ) (p : WritingWorld first from world out rest k) where
+  module _ (h : k < 32) where
+    one_more : 32 - k ≡ suc (32 - (k + 1))
+    one_more = omega arith
 
--- ---- a step with a sender
+    pub world_out : (rest % 2 ≡ 1 → ⊥) → WritingWorld first from world out (rest / 2) (k + 1)
+    world_out e =
+        record { from_on = p.from_on; going = rw (one_more, members_even (32 - (k + 1)) (k + 1) rest (sep_at from out.at) (omega arith)) at p.going }
 
-pub sender_stored : (key : List ℕ) (b f : ℕ) {at next last : ℕ} {l l' l'' : List ℕ} → at + length (sender_text key b f) ≤ length l
-    → Put l at (key ++ digits b) next l' → Put l' next (ascii " from=" ++ digits f) last l'' → Stored l at (sender_text key b f) last l''
-sender_stored key b f {at = at} {l = l} room p q =
-    let e = append_assoc key (digits b) (ascii " from=" ++ digits f) in
-    rw (← e) (put_then (key ++ digits b) (ascii " from=" ++ digits f) p (put_last (ascii " from=" ++ digits f) q) (rw (← e) at room))
+    module _ (e : rest % 2 ≡ 1) where
+      next : Going first (world_text world) out ((sep_at from out.at ++ digits (k + 1)) ++ members (32 - (k + 1)) (k + 1 + 1) (rest / 2) (44 ∷ []))
+      next =
+          rw (append_assoc (sep_at from out.at) (digits (k + 1)) (members (32 - (k + 1)) (k + 1 + 1) (rest / 2) (44 ∷ [])))
+          (rw (one_more, members_odd (32 - (k + 1)) (k + 1) rest (sep_at from out.at) e) at p.going)
 
--- ---- a start: what is put before its world, and the world behind it
+      pub world_in : Holds first (world_text world) → {after : Writer} → Puts out (sep_at from out.at ++ digits (k + 1)) after
+          → WritingWorld first from world after (rest / 2) (k + 1)
+      world_in r {after} q =
+          let M = members (32 - (k + 1)) (k + 1 + 1) (rest / 2) (44 ∷ []) in
+          let w = put_last (sep_at from out.at ++ digits (k + 1)) q (going_holds _ M next r) in
+          let later : from < after.at = omega (arith, p.from_on, w.stored.place, length-append (sep_at from out.at) (digits (k + 1)), digits_length (k + 1)) in
+          record { from_on = omega arith; going = rw (sep_comma from after.at later) (going_put _ M next r q) }
 
-module _ (b v w : ℕ) {at n₁ n₂ n₃ : ℕ} {l l₁ l₂ l₃ : List ℕ} (room : at + length (start_text b v w) ≤ length l)
-    (p₁ : Put l at (ascii "step=start bench=" ++ digits b) n₁ l₁) (p₂ : Put l₁ n₁ (ascii " value=" ++ digits v) n₂ l₂) (p₃ : Put l₂ n₂ (ascii " world=") n₃ l₃) where
-  abbrev value : List ℕ
-  value = (ascii " value=" ++ digits v) ++ (ascii " world=" ++ world_text w)
-
-  room₁ : n₁ + length value ≤ length l₁
-  room₁ = put_room (ascii "step=start bench=" ++ digits b) value p₁ room
-
-  room₂ : n₂ + length (ascii " world=" ++ world_text w) ≤ length l₂
-  room₂ = put_room (ascii " value=" ++ digits v) (ascii " world=" ++ world_text w) p₂ room₁
-
-  pub start_room : n₃ + length (world_text w) ≤ length l₃
-  start_room = put_room (ascii " world=") (world_text w) p₃ room₂
-
-  pub start_stored : {last : ℕ} {l₄ : List ℕ} → Stored l₃ n₃ (world_text w) last l₄ → Stored l at (start_text b v w) last l₄
-  start_stored s =
-      put_then (ascii "step=start bench=" ++ digits b) value p₁
-      (put_then (ascii " value=" ++ digits v) (ascii " world=" ++ world_text w) p₂ (put_then (ascii " world=") (world_text w) p₃ (λ h. s)))
-      room
+  pub world_all : 32 ≤ k → Writes first (world_text world) out
+  world_all h = let z : 32 - k ≡ 0 = omega arith in going_end (rw (z, members_nil (k + 1) rest (sep_at from out.at)) at p.going)

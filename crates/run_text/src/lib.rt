@@ -9,31 +9,38 @@ ghost use Rattle.kinds.specs.Sizes.{benches_of};
 ghost use Rattle.spelling.specs.Reading.{read_line_of};
 ghost use Rattle.spelling.specs.Text.{write_line_of, room_after};
 
-use kinds::Size;
-use spelling::{Line, Read, Written};
+use kinds::{Refusal, Size};
+use spelling::{Found, Line};
+use text::lines;
 
 mod worlds; // worlds.rt: how a world is spelled
-mod reading; // reading.rt: a step's line read
+mod reading; // reading.rt: a step read
 mod writing; // writing.rt: a step's line written
 
-// The line that begins at a place of a text.
-pub fn read_line(text: &[u8], at: usize, size: Size) -> Read
+// The line that begins at a place of a text, a step or none, and the place of the next; None at the end of the text.
+pub fn read_line(text: &[u8], at: usize, size: Size) -> Found<Option<Line>>
     ensures { result ≡ read_line_of (benches_of size) text.now at }
 {
-    reading::read_upto(text, at, sets::benches_of(size))
+    if at < text.len() {
+        Some(lines::ended(text, at, reading::step_at(text, at, size)))
+    } else {
+        None
+    }
 }
 
-// Writes a line, byte 10 at its end, to the front of the room. A refusal leaves the room as it was, and so does the line all
-// that stands behind it.
-pub fn write_line(line: Line, room: &mut [u8], size: Size) -> Written
-    ensures { (result ≡ write_line_of (benches_of size) line room.old 0) × (room.new ≡ room_after (benches_of size) line room.old 0) }
+// Writes a line, byte 10 at its end, to the front of the room, and answers how many bytes it has. A refusal leaves the room as it was,
+// and so does the line all that stands behind it.
+pub fn write_line(line: Line, room: &mut [u8], size: Size) -> Result<usize, Refusal>
+    ensures answer { result ≡ write_line_of (benches_of size) line room.old 0 }
+    ensures held { room.new ≡ room_after (benches_of size) line room.old 0 }
 {
-    writing::write_upto(line, room, 0, sets::benches_of(size))
+    write_line_at(line, room, 0, size)
 }
 
 // The same at any place of the room, so that a text of many lines is written line by line.
-pub fn write_line_at(line: Line, room: &mut [u8], at: usize, size: Size) -> Written
-    ensures { (result ≡ write_line_of (benches_of size) line room.old at) × (room.new ≡ room_after (benches_of size) line room.old at) }
+pub fn write_line_at(line: Line, room: &mut [u8], at: usize, size: Size) -> Result<usize, Refusal>
+    ensures answer { result ≡ write_line_of (benches_of size) line room.old at }
+    ensures held { room.new ≡ room_after (benches_of size) line room.old at }
 {
-    writing::write_upto(line, room, at, sets::benches_of(size))
+    writing::write_line(line, room, at, size)
 }

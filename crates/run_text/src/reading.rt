@@ -1,162 +1,86 @@
-// A line of a text read, in one pass: what stands at its front says which step it is, and what must follow. Only a line that is no step
-// is looked at twice, the second time for its end.
-ghost use Rattle.std.specs.Prelude.{◌≡◌, ◌≤◌, ◌<◌, length};
-ghost use Rattle.spelling.specs.declared.Said.TheVariants.{Malformed};
-ghost use Rattle.spelling.specs.declared.Read.TheVariants.{Next};
+// A step read where it stands in a text, in one go: what stands at its front says which step it is, and what must follow.
+ghost use Rattle.std.specs.Prelude.{◌≡◌, option_map};
+ghost use Rattle.kinds.specs.Sizes.{benches_of};
 ghost use Rattle.spelling.specs.Numbers.{ascii};
-ghost use Rattle.spelling.specs.Reading.{verb_at, rare_verb_at, start_at, sender_at, rest_at, step_at, read_line_of};
-ghost use Rattle.spelling.specs.Fields.{field_at, next_at};
+ghost use Rattle.spelling.specs.Fields.{field_at};
+ghost use Rattle.spelling.specs.Reading.{verb_at, start_at, rest_at, step_at};
 
 use crate::worlds;
-use kinds::{BenchNo, SlotNo, Step};
-use spelling::{Found, Read, Said, StepFound, Verb, VerbFound};
+use kinds::{BenchNo, Size, SlotNo, Step};
+use spelling::{Found, Verb};
 use text::{bytes, numbers};
 
 // The step's name at a place: first those that a run has most of.
-fn verb_at(text: &[u8], at: usize) -> VerbFound
+#[tactic(auto, unfolding(spelling::specs::Reading::verb_at, spelling::specs::Reading::key_of))]
+fn verb_at(text: &[u8], at: usize) -> Found<Verb>
     ensures { result ≡ verb_at text.now at }
 {
-    if bytes::starts(text, at, b"arrive bench=") {
-        return VerbFound::Known(Verb::Arrive, at + 13);
+    if let Some(next) = bytes::behind(text, at, b"arrive bench=") {
+        return Some((Verb::Arrive, next));
     }
-    if bytes::starts(text, at, b"turn bench=") {
-        return VerbFound::Known(Verb::Turn, at + 11);
+    if let Some(next) = bytes::behind(text, at, b"turn bench=") {
+        return Some((Verb::Turn, next));
     }
-    if bytes::starts(text, at, b"notice bench=") {
-        return VerbFound::Known(Verb::Notice, at + 13);
+    if let Some(next) = bytes::behind(text, at, b"notice bench=") {
+        return Some((Verb::Notice, next));
     }
-    rare_verb_at(text, at)
-}
-
-// The step's name at a place, of those that a bench has one of at most.
-fn rare_verb_at(text: &[u8], at: usize) -> VerbFound
-    ensures { result ≡ rare_verb_at text.now at }
-{
-    if bytes::starts(text, at, b"start bench=") {
-        return VerbFound::Known(Verb::Start, at + 12);
+    if let Some(next) = bytes::behind(text, at, b"start bench=") {
+        return Some((Verb::Start, next));
     }
-    if bytes::starts(text, at, b"abstain bench=") {
-        return VerbFound::Known(Verb::Abstain, at + 14);
+    if let Some(next) = bytes::behind(text, at, b"abstain bench=") {
+        return Some((Verb::Abstain, next));
     }
-    if bytes::starts(text, at, b"leave bench=") {
-        return VerbFound::Known(Verb::Leave, at + 12);
+    if let Some(next) = bytes::behind(text, at, b"leave bench=") {
+        return Some((Verb::Leave, next));
     }
-    if bytes::starts(text, at, b"fail bench=") {
-        return VerbFound::Known(Verb::Fail, at + 11);
+    if let Some(next) = bytes::behind(text, at, b"fail bench=") {
+        return Some((Verb::Fail, next));
     }
-    VerbFound::Unknown
-}
-
-// The sender at a place, with its key. The key is fixed here, and for a value below, so that the comparison compiles to fixed bytes.
-fn from_at(text: &[u8], at: usize) -> Found
-    ensures { result ≡ field_at (ascii " from=") text.now at }
-{
-    if !bytes::starts(text, at, b" from=") {
-        return Found::Nothing;
-    }
-    numbers::number_at(text, at + 6)
-}
-
-// The value at a place, with its key.
-fn value_at(text: &[u8], at: usize) -> Found
-    ensures { result ≡ field_at (ascii " value=") text.now at }
-{
-    if !bytes::starts(text, at, b" value=") {
-        return Found::Nothing;
-    }
-    numbers::number_at(text, at + 7)
+    None
 }
 
 // What follows the bench of a start: its value and its world.
-fn start_at(text: &[u8], at: usize, bench: u32, limit: u32) -> StepFound
-    requires { limit ≤ 32 }
-    ensures { result ≡ start_at limit text.now at bench }
+#[tactic(auto, unfolding(spelling::specs::Reading::start_at))]
+fn start_at(text: &[u8], at: usize, bench: BenchNo, size: Size) -> Found<Step>
+    ensures { result ≡ start_at (benches_of size) text.now at bench.0 }
 {
-    let Found::Got(value, next) = value_at(text, at) else {
-        return StepFound::Unspelled;
-    };
-    if !bytes::starts(text, next, b" world=") {
-        return StepFound::Unspelled;
-    }
-    let Found::Got(world, end) = worlds::world_at(text, next + 7, limit) else {
-        return StepFound::Unspelled;
-    };
-    StepFound::Spelled(Step::Start(BenchNo(bench), SlotNo(value), world), end)
+    let (value, at) = numbers::field_at(text, at, b" value=")?;
+    let at = bytes::behind(text, at, b" world=")?;
+    let (world, at) = worlds::world_at(text, at, size)?;
+    Some((Step::Start(bench, SlotNo(value), world), at))
+}
+
+// What follows the bench of a step with a sender: the sender.
+fn from_at(text: &[u8], at: usize) -> Found<BenchNo>
+    ensures { result ≡ option_map (λ (f, end). (record { 0 = f }, end)) (field_at (ascii " from=") text.now at) }
+{
+    let (from, at) = numbers::field_at(text, at, b" from=")?;
+    Some((BenchNo(from), at))
 }
 
 // What follows the bench of a step.
-fn rest_at(text: &[u8], at: usize, verb: Verb, bench: u32, limit: u32) -> StepFound
-    requires { limit ≤ 32 }
-    ensures { result ≡ rest_at limit text.now at verb bench }
+#[tactic(auto, unfolding(spelling::specs::Reading::rest_at, spelling::specs::Reading::from_at))]
+fn rest_at(text: &[u8], at: usize, verb: Verb, bench: BenchNo, size: Size) -> Found<Step>
+    ensures { result ≡ rest_at (benches_of size) text.now at verb bench.0 }
 {
     match verb {
-        Verb::Start => start_at(text, at, bench, limit),
-        Verb::Abstain => StepFound::Spelled(Step::Abstain(BenchNo(bench)), at),
-        Verb::Leave => StepFound::Spelled(Step::Leave(BenchNo(bench)), at),
-        Verb::Fail => StepFound::Spelled(Step::Fail(BenchNo(bench)), at),
-        Verb::Turn => StepFound::Spelled(Step::Turn(BenchNo(bench)), at),
-        Verb::Arrive | Verb::Notice => sender_at(text, at, verb, bench),
-    }
-}
-
-// What follows the bench of a step with a sender.
-fn sender_at(text: &[u8], at: usize, verb: Verb, bench: u32) -> StepFound
-    ensures { result ≡ sender_at text.now at verb bench }
-{
-    let Found::Got(from, end) = from_at(text, at) else {
-        return StepFound::Unspelled;
-    };
-    match verb {
-        Verb::Notice => StepFound::Spelled(Step::Notice(BenchNo(bench), BenchNo(from)), end),
-        _ => StepFound::Spelled(Step::Arrive(BenchNo(bench), BenchNo(from)), end),
+        Verb::Start => start_at(text, at, bench, size),
+        Verb::Abstain => Some((Step::Abstain(bench), at)),
+        Verb::Leave => Some((Step::Leave(bench), at)),
+        Verb::Fail => Some((Step::Fail(bench), at)),
+        Verb::Turn => Some((Step::Turn(bench), at)),
+        Verb::Arrive => from_at(text, at).map(|(from, at)| (Step::Arrive(bench, from), at)),
+        Verb::Notice => from_at(text, at).map(|(from, at)| (Step::Notice(bench, from), at)),
     }
 }
 
 // The step that is spelled from a place on.
-fn step_at(text: &[u8], at: usize, limit: u32) -> StepFound
-    requires { limit ≤ 32 }
-    ensures { result ≡ step_at limit text.now at }
+#[tactic(auto, unfolding(spelling::specs::Reading::step_at))]
+pub(crate) fn step_at(text: &[u8], at: usize, size: Size) -> Found<Step>
+    ensures { result ≡ step_at (benches_of size) text.now at }
 {
-    if !bytes::starts(text, at, b"step=") {
-        return StepFound::Unspelled;
-    }
-    let VerbFound::Known(verb, first) = verb_at(text, at + 5) else {
-        return StepFound::Unspelled;
-    };
-    let Found::Got(bench, next) = numbers::number_at(text, first) else {
-        return StepFound::Unspelled;
-    };
-    rest_at(text, next, verb, bench, limit)
-}
-
-// A line that is no step is passed over.
-fn pass_over(text: &[u8], at: usize) -> Read
-    requires { at < length text.now }
-    ensures { result ≡ Next Malformed (next_at text.now at) }
-{
-    let end = bytes::line_end(text, at);
-    if end < text.len() {
-        return Read::Next(Said::Malformed, end + 1);
-    }
-    Read::Next(Said::Malformed, end)
-}
-
-// The line that begins at a place, where worlds name benches up to limit.
-pub(crate) fn read_upto(text: &[u8], at: usize, limit: u32) -> Read
-    requires { limit ≤ 32 }
-    ensures { result ≡ read_line_of limit text.now at }
-{
-    if text.len() <= at {
-        return Read::End;
-    }
-    let StepFound::Spelled(step, end) = step_at(text, at, limit) else {
-        return pass_over(text, at);
-    };
-    if text.len() <= end {
-        return Read::Next(Said::Does(step), end);
-    }
-    if text[end] == 10 {
-        return Read::Next(Said::Does(step), end + 1);
-    }
-    pass_over(text, at)
+    let at = bytes::behind(text, at, b"step=")?;
+    let (verb, at) = verb_at(text, at)?;
+    let (bench, at) = numbers::number_at(text, at)?;
+    rest_at(text, at, verb, BenchNo(bench), size)
 }

@@ -1,123 +1,104 @@
-// A step's line written. Its length is known before the first byte is stored, so that a refusal stores nothing.
-ghost use Rattle.std.specs.Prelude.{◌≡◌, ◌&&◌, ◌+◌, ◌≤◌, length};
-ghost use Rattle.spelling.specs.Numbers.{digits};
+// A step's line written.
+ghost use Rattle.std.specs.Prelude.{◌≡◌};
+ghost use Rattle.kinds.specs.Sizes.{benches_of};
 ghost use Rattle.spelling.specs.Spelling.{step_text, is_small, is_writable};
-ghost use Rattle.spelling.specs.Stored.{Stored};
+ghost use Rattle.room.specs.Writes.{Holds, Writes};
 ghost use Rattle.spelling.specs.Storing.{sender_text, start_text};
 ghost use Rattle.spelling.specs.Text.{write_line_of, room_after};
 
 use crate::worlds;
-use kinds::Step;
-use room::{bytes, decimal};
-use spelling::{Line, Written};
+use kinds::{BenchNo, Refusal, Size, SlotNo, Step};
+use room::Writer;
+use spelling::Line;
 
-// Whether neither of two numbers is above 99,999.
-fn both_small(a: u32, b: u32) -> bool
-    ensures { result ≡ (is_small a && is_small b) }
+// No line is longer: a start, with two numbers of ten digits and a world of 32 benches, has fewer bytes.
+const LONGEST_LINE: usize = 404;
+
+// Whether a number is at most 99,999.
+fn is_small(number: u32) -> bool
+    ensures { result ≡ is_small number }
 {
-    if 100000 <= a {
-        return false;
-    }
-    b < 100000
+    number < 100000
 }
 
-// Whether a step can be written, where worlds name benches up to limit.
-fn is_writable(step: Step, limit: u32) -> bool
-    requires { limit ≤ 32 }
-    ensures { result ≡ is_writable limit step }
+// Whether a step can be written.
+#[tactic(auto, unfolding(spelling::specs::Spelling::is_writable))]
+fn is_writable(step: Step, size: Size) -> bool
+    ensures { result ≡ is_writable (benches_of size) step }
 {
     match step {
         Step::Start(bench, value, world) => {
-            if both_small(bench.0, value.0) {
-                worlds::is_world(world, limit)
-            } else {
-                false
-            }
+            is_small(bench.0) && is_small(value.0) && worlds::is_world(world, size)
         }
-        Step::Abstain(b) => b.0 < 100000,
-        Step::Leave(b) => b.0 < 100000,
-        Step::Fail(b) => b.0 < 100000,
-        Step::Turn(b) => b.0 < 100000,
-        Step::Arrive(bench, from) => both_small(bench.0, from.0),
-        Step::Notice(bench, from) => both_small(bench.0, from.0),
+        Step::Abstain(bench) => is_small(bench.0),
+        Step::Leave(bench) => is_small(bench.0),
+        Step::Fail(bench) => is_small(bench.0),
+        Step::Turn(bench) => is_small(bench.0),
+        Step::Arrive(bench, from) => is_small(bench.0) && is_small(from.0),
+        Step::Notice(bench, from) => is_small(bench.0) && is_small(from.0),
     }
 }
 
-// How many bytes two numbers take.
-fn two_length(a: u32, b: u32) -> usize
-    ensures { result ≡ length (digits a) + length (digits b) }
+// Writes a key with a bench, and the sender.
+fn write_sender(out: &mut Writer, key: &[u8], bench: BenchNo, from: BenchNo)
+    requires { Holds out.old (sender_text key.now bench.0 from.0) }
+    ensures { Writes out.old (sender_text key.now bench.0 from.0) out.new }
 {
-    decimal::number_length(a) + decimal::number_length(b)
+    out.put_field(key, bench.0);
+    out.put_field(b" from=", from.0);
 }
 
-// How many bytes a step takes.
-fn step_length(step: Step) -> usize
-    ensures { result ≡ length (step_text step) }
+fn write_start(out: &mut Writer, bench: BenchNo, value: SlotNo, world: u32)
+    requires { Holds out.old (start_text bench.0 value.0 world) }
+    ensures { Writes out.old (start_text bench.0 value.0 world) out.new }
+{
+    out.put_field(b"step=start bench=", bench.0);
+    out.put_field(b" value=", value.0);
+    out.put_bytes(b" world=");
+    worlds::write_world(out, world);
+}
+
+// Writes a step, its byte 10 left out.
+fn write_step(out: &mut Writer, step: Step)
+    requires { Holds out.old (step_text step) }
+    ensures { Writes out.old (step_text step) out.new }
 {
     match step {
-        Step::Start(bench, value, world) => 31
-            + two_length(bench.0, value.0)
-            + worlds::world_length(world),
-        Step::Abstain(b) => 19 + decimal::number_length(b.0),
-        Step::Leave(b) => 17 + decimal::number_length(b.0),
-        Step::Fail(b) => 16 + decimal::number_length(b.0),
-        Step::Turn(b) => 16 + decimal::number_length(b.0),
-        Step::Arrive(bench, from) => 24 + two_length(bench.0, from.0),
-        Step::Notice(bench, from) => 24 + two_length(bench.0, from.0),
+        Step::Start(bench, value, world) => write_start(out, bench, value, world),
+        Step::Abstain(bench) => out.put_field(b"step=abstain bench=", bench.0),
+        Step::Leave(bench) => out.put_field(b"step=leave bench=", bench.0),
+        Step::Fail(bench) => out.put_field(b"step=fail bench=", bench.0),
+        Step::Turn(bench) => out.put_field(b"step=turn bench=", bench.0),
+        Step::Arrive(bench, from) => write_sender(out, b"step=arrive bench=", bench, from),
+        Step::Notice(bench, from) => write_sender(out, b"step=notice bench=", bench, from),
     }
 }
 
-// Stores a key with a bench, and the sender.
-fn store_two(room: &mut [u8], at: usize, key: &[u8], bench: u32, from: u32) -> usize
-    requires { at + length (sender_text key.now bench from) ≤ length room.old }
-    ensures { Stored room.old at (sender_text key.now bench from) result room.new }
+// Writes a line from a place on, byte 10 at its end, and answers how many bytes it has. It is made beside the room, so that a refusal
+// writes nothing there.
+pub(crate) fn write_line(
+    line: Line,
+    room: &mut [u8],
+    at: usize,
+    size: Size,
+) -> Result<usize, Refusal>
+    ensures answer { result ≡ write_line_of (benches_of size) line room.old at }
+    ensures held { room.new ≡ room_after (benches_of size) line room.old at }
 {
-    let a = decimal::put_field(room, at, key, bench);
-    decimal::put_field(room, a, b" from=", from)
-}
-
-// Stores a start.
-fn store_start(room: &mut [u8], at: usize, bench: u32, value: u32, world: u32) -> usize
-    requires { at + length (start_text bench value world) ≤ length room.old }
-    ensures { Stored room.old at (start_text bench value world) result room.new }
-{
-    let a = decimal::put_field(room, at, b"step=start bench=", bench);
-    let b = decimal::put_field(room, a, b" value=", value);
-    let c = bytes::put_bytes(room, b, b" world=");
-    worlds::store_world(room, c, world)
-}
-
-// Stores a step, its byte 10 left out.
-fn store_step(room: &mut [u8], at: usize, step: Step) -> usize
-    requires { at + length (step_text step) ≤ length room.old }
-    ensures { Stored room.old at (step_text step) result room.new }
-{
-    match step {
-        Step::Start(bench, value, world) => store_start(room, at, bench.0, value.0, world),
-        Step::Abstain(b) => decimal::put_field(room, at, b"step=abstain bench=", b.0),
-        Step::Leave(b) => decimal::put_field(room, at, b"step=leave bench=", b.0),
-        Step::Fail(b) => decimal::put_field(room, at, b"step=fail bench=", b.0),
-        Step::Turn(b) => decimal::put_field(room, at, b"step=turn bench=", b.0),
-        Step::Arrive(bench, from) => store_two(room, at, b"step=arrive bench=", bench.0, from.0),
-        Step::Notice(bench, from) => store_two(room, at, b"step=notice bench=", bench.0, from.0),
+    if !is_writable(line, size) {
+        return Err(Refusal::NotWritable);
     }
-}
-
-// Writes a step's line from a place on: refusal 21, then 22, else how many bytes were written.
-pub(crate) fn write_upto(line: Line, room: &mut [u8], at: usize, limit: u32) -> Written
-    requires { limit ≤ 32 }
-    ensures { (result ≡ write_line_of limit line room.old at) × (room.new ≡ room_after limit line room.old at) }
-{
-    let writable = is_writable(line, limit);
-    let count = step_length(line) + 1;
-    let fits = bytes::has_room(room, at, count);
-    if !writable {
-        return Written::Refused(21);
+    let mut bytes = [0; LONGEST_LINE];
+    let mut made = Writer {
+        room: &mut bytes,
+        at: 0,
+    };
+    write_step(&mut made, line);
+    made.put_bytes(b"\n");
+    let mut out = Writer { room, at };
+    if !out.has_room(made.at) {
+        return Err(Refusal::ShortRoom);
     }
-    if !fits {
-        return Written::Refused(22);
-    }
-    let end = store_step(room, at, line);
-    room[end] = 10;
-    Written::Bytes(count)
+    out.put_bytes(made.written());
+    Ok(made.at)
 }

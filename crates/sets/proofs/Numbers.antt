@@ -1,27 +1,17 @@
 -- Laws of bench numbers and their places: 1 to n are benches. Assumes nothing.
-use mathlib.Core.Path.{◌≡◌, refl, sym, ◌∙◌}
-use mathlib.Core.Bool.{Bool, true, false, not}
+use mathlib.Core.Path.{◌≡◌, refl, ◌∙◌}
+use mathlib.Core.Bool.{true}
 use Prim.Native.Nat.{ℕ, suc, ◌-◌, ◌<◌, ◌≤◌}
 use native.Mathlib.Omega.{arith}
-use lib.Dec.{leb}
-use borrow.Author.Tests.{le-leb, lt-leb, not-false}
+use borrow.Author.Tests.{le-leb}
 use Rattle.common.specs.Benches.{is_bench}
 use Rattle.common.specs.Places.{place_of}
 use Rattle.common.proofs.Benches.{bench_in}
+use Rattle.kinds.specs.Sizes.{benches_of, places}
+use Rattle.kinds.specs.declared.Size.{Size}
+use Rattle.kinds.proofs.Sizes.{benches_fit}
 
 module _ (n : ℕ) where
-  pub bench_low : (b : ℕ) → b < 1 → false ≡ is_bench n b
-  unfolding is_bench
-  bench_low b h = rw (lt-leb 1 b h) refl
-
-  pub bench_top : (b : ℕ) → 1 ≤ b → leb b n ≡ is_bench n b
-  unfolding is_bench
-  bench_top b h = rw (le-leb 1 b h) refl
-
-  -- as the code asks it, of a number m that is n
-  pub bench_upto : (m b : ℕ) → m ≡ n → 1 ≤ b → leb b m ≡ is_bench n b
-  bench_upto m b e h = rw e (bench_top b h)
-
   pub bench_first : (f : ℕ) → is_bench n f ≡ true → 1 ≤ f
   bench_first f e = (bench_in n f e).0
 
@@ -29,31 +19,16 @@ module _ (n : ℕ) where
   pub bench_place : (f : ℕ) → is_bench n f ≡ true → f - 1 < n
   bench_place f e = omega (arith, bench_in n f e)
 
-  -- what the code has found of a number
-  pub known : (f : ℕ) (q : Bool) → q ≡ is_bench n f → not q ≡ false → is_bench n f ≡ true
-  known f q is_q e = sym is_q ∙ not-false q e
-
 -- a bench among n has a place in every table of m places or more
 pub bench_wider : (n m : ℕ) → n ≤ m → (f : ℕ) → is_bench n f ≡ true → is_bench m f ≡ true
 unfolding is_bench
 bench_wider n m h f e = let i = bench_in n f e in rw (le-leb 1 f i.0, le-leb f m (omega (arith, i.1))) refl
 
--- ---- the place, as the code finds it
+-- and a bench of a run has one
+pub bench_placed : (z : Size) (f : ℕ) → is_bench (benches_of z) f ≡ true → f - 1 < places
+bench_placed z f e = omega (arith, bench_place (benches_of z) f e, benches_fit z)
 
-module _ (m f : ℕ) where
-  pub place_below : f < 1 → 0 ≡ place_of m f
-  unfolding place_of
-  place_below h = rw (sym (bench_low m f h)) refl
-
-  pub place_here : 1 ≤ f → f - 1 < m → f - 1 ≡ place_of m f
-  unfolding place_of
-  place_here h l = rw (sym (bench_top m f h), le-leb f m (omega arith)) refl
-
-  pub place_past : 1 ≤ f → m ≤ f - 1 → 0 ≡ place_of m f
-  unfolding place_of
-  place_past h l = rw (sym (bench_top m f h), lt-leb f m (omega arith)) refl
-
-  -- a bench stands right behind its place
-  pub place_next : (r : ℕ) → r ≡ place_of m f → is_bench m f ≡ true → suc r ≡ f
-  unfolding place_of
-  place_next r e h = let p : r ≡ f - 1 = e ∙ rw h refl in omega (arith, bench_first m f h)
+-- a bench stands right behind its place
+pub place_next : (m f r : ℕ) → r ≡ place_of m f → is_bench m f ≡ true → suc r ≡ f
+unfolding place_of
+place_next m f r e h = let p : r ≡ f - 1 = e ∙ rw h refl in omega (arith, bench_first m f h)

@@ -6,15 +6,14 @@ use mathlib.Core.Path.{◌≡◌, refl}
 use lib.Dec.{lit≤}
 use lib.ListN.{length, drop}
 use borrow.Author.Tests.{lt-ltb}
-use Rattle.common.proofs.Tests.{split}
-use Rattle.spelling.specs.declared.Found.{Found}
-use Rattle.spelling.specs.declared.Found.TheVariants.{Got, Nothing}
+use Rattle.std.specs.Prelude.{Option, Some, None}
+use Rattle.common.proofs.Tests.{clash}
 use Rattle.spelling.specs.Numbers.{digits}
 use Rattle.spelling.specs.Spelling.{is_small}
-use Rattle.spelling.specs.Fields.{is_prefix, digit_at, field_at, on}
+use Rattle.spelling.specs.Fields.{◌>>=◌, behind, digit_at, field_at}
 use Rattle.spelling.proofs.Places.{here, past, Spans, spans_then}
-use Rattle.spelling.proofs.Keys.{prefix_own, key_spans}
-use Rattle.spelling.proofs.NumberTrip.{number_reads, number_sound, none_found}
+use Rattle.spelling.proofs.Keys.{behind_own, behind_spans}
+use Rattle.spelling.proofs.NumberTrip.{number_reads, number_sound}
 
 pub both_true : {a b : Bool} → a ≡ true → b ≡ true → (a && b) ≡ true
 both_true p q = cc
@@ -24,21 +23,20 @@ pub space_stops : (text : List ℕ) (at : ℕ) {l : List ℕ} → drop at text �
 unfolding digit_at
 space_stops text at e = rw (here text at e) (lit≤ tt)
 
+-- a reader that found what it looked for went through each of its parts
+pub found_first : {A B : Type 0} {y : B} (found : Option A) (f : A → Option B) → (found >>= f) ≡ Some y → (x : A) × (found ≡ Some x) × (f x ≡ Some y)
+found_first None f e = clash (cc)
+found_first (Some x) f e = (x, refl, e)
+
 pub field_reads : (key text : List ℕ) (at n : ℕ) (rest : List ℕ) → n < 100000 → drop at text ≡ key ++ (digits n ++ rest) → 10 ≤ digit_at text (at + length key + length (digits n))
-    → field_at key text at ≡ Got n (at + length key + length (digits n))
+    → field_at key text at ≡ Some (n, at + length key + length (digits n))
 unfolding field_at
 field_reads key text at n rest h e stop =
-    rw (e, prefix_own key (digits n ++ rest)) (number_reads n text (at + length key) rest h (past text at key e) stop)
+    rw (behind_own key text at (digits n ++ rest) e) (number_reads n text (at + length key) rest h (past text at key e) stop)
 
-pub field_sound : (key text : List ℕ) (at n next : ℕ) → field_at key text at ≡ Got n next → Spans text at (key ++ digits n) next × (is_small n ≡ true)
+pub field_sound : (key text : List ℕ) (at n next : ℕ) → field_at key text at ≡ Some (n, next) → Spans text at (key ++ digits n) next × (is_small n ≡ true)
 unfolding field_at
-field_sound key text at n next got = split (is_prefix key (drop at text))
-    (λ e.
-    let r = number_sound text (at + length key) n next (rw e at got) in
-    (spans_then (key_spans key text at e) r.spans, lt-ltb n 100000 r.small))
-    (λ e. none_found (rw e at got))
-
--- a reader that found what it looked for went through each of its parts
-pub on_got : {X : Type 0} {bad x : X} (n : Found) (f : ℕ → ℕ → X) → (bad ≡ x → ⊥) → on bad n f ≡ x → (v : ℕ) × (next : ℕ) × (n ≡ Got v next) × (f v next ≡ x)
-on_got Nothing f other e = absurd (other e)
-on_got (Got v next) f other e = (v, next, refl, e)
+field_sound key text at n next got =
+    let p = found_first (behind key text at) _ got in
+    let r = number_sound text p.0 n next p.2 in
+    (spans_then (behind_spans key text at p.1) r.spans, lt-ltb n 100000 r.small)

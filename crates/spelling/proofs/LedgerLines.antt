@@ -6,13 +6,13 @@ use mathlib.Core.List.{List}
 use mathlib.Core.Path.{◌≡◌}
 use lib.ListN.{length}
 use borrow.Author.Tests.{leb-true}
+use Rattle.std.specs.Prelude.{Some}
 use Rattle.common.proofs.Tests.{both}
 use Rattle.kinds.specs.declared.BenchNo.{BenchNo}
 use Rattle.book.specs.Book as book
 use Rattle.book.proofs.Outcomes.{step_ind, hand_out_ind}
 use Rattle.spelling.specs.declared.LedgerStep.{LedgerStep}
 use Rattle.spelling.specs.declared.LedgerStep.TheVariants.{Join, Sweep, Close, End, HandOut}
-use Rattle.spelling.specs.declared.LedgerSaid.TheVariants.{Does}
 use Rattle.spelling.specs.Spelling.{is_small}
 use Rattle.spelling.specs.LedgerSpelling.{most_tag, is_tag, is_scriptable}
 use Rattle.spelling.specs.LedgerReading.{ledger_said_of}
@@ -21,7 +21,7 @@ use Rattle.spelling.proofs.LedgerTheorems.{reads_iff_spelled}
 
 -- ---- tags
 
-pub tag_small : (line : List ℕ) (s : BenchNo) (t : ℕ) → ledger_said_of line ≡ Does (Sweep s t) → t ≤ most_tag
+pub tag_small : (line : List ℕ) (s : BenchNo) (t : ℕ) → ledger_said_of line ≡ Some (Sweep s t) → t ≤ most_tag
 unfolding is_scriptable
 tag_small line s t e = leb-true t most_tag (both (is_small s.0) (is_tag t) ((reads_iff_spelled line (Sweep s t)).0 e).1).1
 

@@ -2,28 +2,32 @@
 use Prim.Native.Nat.{ℕ}
 use mathlib.Core.Bool.{true}
 use mathlib.Core.List.{List}
-use mathlib.Core.Path.{◌≡◌, sym, ◌∙◌}
+use mathlib.Core.Path.{◌≡◌}
 use lib.ListN.{length}
 use native.Mathlib.Omega.{arith}
+use Rattle.std.specs.Prelude.{Some, None}
 use Rattle.spelling.specs.declared.LedgerStep.{LedgerStep}
-use Rattle.spelling.specs.declared.LedgerSaid.TheVariants.{Does, Malformed}
 use Rattle.spelling.specs.LedgerSpelling.{ledger_step_text, is_scriptable}
-use Rattle.spelling.specs.LedgerReading.{ledger_said_of, read_script}
-use Rattle.spelling.specs.InTurn.{read_script_all}
-use Rattle.spelling.proofs.LedgerLineTrip.{line_reads, line_sound, not_does, all_read}
+use Rattle.spelling.specs.LedgerReading.{ledger_said_of, read_script, read_script_line_of}
+use Rattle.spelling.specs.InTurn.{read_all}
+use Rattle.spelling.proofs.LineTrip.{all_read, iff_spelled, none_spelled, one_spelled}
+use Rattle.spelling.proofs.LedgerLineTrip.{ledger_script}
 
 -- A line reads to a step exactly when it is the spelling of that step and the step can be spelled.
-pub reads_iff_spelled : (line : List ℕ) (s : LedgerStep) → (ledger_said_of line ≡ Does s → (line ≡ ledger_step_text s) × (is_scriptable s ≡ true)) × ((line ≡ ledger_step_text s) × (is_scriptable s ≡ true) → ledger_said_of line ≡ Does s)
-reads_iff_spelled line s = (line_sound line s, λ h. rw h.0 (line_reads s h.1))
+pub reads_iff_spelled : (line : List ℕ) (s : LedgerStep) → (ledger_said_of line ≡ Some s → (line ≡ ledger_step_text s) × (is_scriptable s ≡ true)) × ((line ≡ ledger_step_text s) × (is_scriptable s ≡ true) → ledger_said_of line ≡ Some s)
+unfolding ledger_said_of
+reads_iff_spelled = iff_spelled ledger_script
 
 -- A line that is the spelling of no such step is malformed.
-pub malformed_else : (line : List ℕ) → ((s : LedgerStep) → is_scriptable s ≡ true → line ≡ ledger_step_text s → ⊥) → ledger_said_of line ≡ Malformed
-malformed_else line f = not_does (ledger_said_of line) (λ s e. let r = line_sound line s e in f s r.1 r.0)
+pub malformed_else : (line : List ℕ) → ((s : LedgerStep) → is_scriptable s ≡ true → line ≡ ledger_step_text s → ⊥) → ledger_said_of line ≡ None
+unfolding ledger_said_of
+malformed_else = none_spelled ledger_script
 
 -- No two steps that can be spelled have one spelling.
 pub spelled_once : (s t : LedgerStep) → is_scriptable s ≡ true → is_scriptable t ≡ true → ledger_step_text s ≡ ledger_step_text t → s ≡ t
-spelled_once s t h k e = let p = line_reads s h in let q = line_reads t k in let r : Does s ≡ Does t = sym p ∙ rw e q in cc
+spelled_once = one_spelled ledger_script
 
 -- The script's `read_line` from place 0 on, each time from where the line before ended, gives the script's lines, and as many calls as it has bytes suffice.
-pub reads_in_turn : (text : List ℕ) → read_script_all (length text) text 0 ≡ read_script text
-reads_in_turn text = all_read (length text) text 0 (omega arith)
+pub reads_in_turn : (text : List ℕ) → read_all (read_script_line_of text) (length text) 0 ≡ read_script text
+unfolding read_script read_script_line_of
+reads_in_turn text = all_read ledger_said_of (length text) text 0 (omega arith)

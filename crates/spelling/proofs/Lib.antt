@@ -14,8 +14,9 @@ pub mod WorldTrip
 pub mod StepTrip
 pub mod Lines
 pub mod LineBytes
-pub mod LineTrip
 pub mod TextTrip
+pub mod LineTrip
+pub mod StepLines
 pub mod Turns
 pub mod Theorems
 pub mod Examples

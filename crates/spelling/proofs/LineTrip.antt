@@ -1,122 +1,149 @@
--- Lines there and back, and a line read where it stands in its text. Assumes nothing.
-use Prim.Native.Nat.{ℕ, zero, suc, ◌+◌, ◌/◌, ◌%◌, ◌≤◌, ◌<◌}
+-- Lines there and back, and a line read where it stands in its text, for each kind of steps. Assumes nothing.
+use Prim.Native.Nat.{ℕ, zero, suc, ◌+◌, ◌≤◌, ◌<◌}
 use native.Mathlib.Omega.{arith}
-use mathlib.Core.Bool.{true}
-use mathlib.Core.List.{List, [], ◌∷◌, append-nil}
+use mathlib.Core.Bool.{Bool, true, false, cond}
+use mathlib.Core.List.{List, [], ◌∷◌, ◌++◌, map, append-nil}
 use mathlib.Core.Logic.{⊎_elim}
 use mathlib.Core.Path.{◌≡◌, refl, sym, ap, ◌∙◌}
-use lib.Dec.{leb}
+use lib.Dec.{leb, ltb}
 use lib.ListN.{length, get_or, drop, drop_of_length-le}
-use borrow.Author.Tests.{lt-ltb, le-ltb, le-leb, leb-true}
+use borrow.Author.Tests.{lt-ltb, le-ltb, le-leb, leb-true, ltb-true, ltb-false, eq-eqb, eqb-true, eqb-false}
+use Rattle.std.specs.Prelude.{Option, Some, None}
 use Rattle.common.proofs.Tests.{split, clash}
-use Rattle.kinds.specs.declared.Step.{Step}
-use Rattle.kinds.specs.declared.Step.TheVariants.{Start, Abstain, Leave, Fail, Turn, Arrive, Notice}
-use Rattle.spelling.specs.declared.Said.{Said}
-use Rattle.spelling.specs.declared.Said.TheVariants.{Does, Malformed}
-use Rattle.spelling.specs.declared.Read.{Read}
-use Rattle.spelling.specs.declared.Read.TheVariants.{Next, End}
-use Rattle.spelling.specs.declared.StepFound.{StepFound}
-use Rattle.spelling.specs.declared.StepFound.TheVariants.{Spelled, Unspelled}
-use Rattle.spelling.specs.Numbers.{digits}
-use Rattle.spelling.specs.Spelling.{members, world_text, step_text, is_writable}
-use Rattle.spelling.specs.Reading.{step_at, whole, said_of, read_line_of}
-use Rattle.spelling.specs.Fields.{line_at, next_from, next_at}
-use Rattle.spelling.proofs.LineEnds.{Ends, at_end, ends_last, ends_next, ends_not, no_ten, ten_append, ten_digits, spans_line, spans_end, line_stands}
-use Rattle.spelling.proofs.Members.{members_odd, members_even, members_nil}
-use Rattle.spelling.proofs.WorldTrip.{parity}
-use Rattle.spelling.proofs.StepTrip.{step_reads, step_sound}
+use Rattle.spelling.specs.Lines.{lines_of}
+use Rattle.spelling.specs.Fields.{Found, line_at, next_from, next_at, whole, line_from, ends_at, ended, read_from}
+use Rattle.spelling.specs.InTurn.{read_all}
+use Rattle.spelling.proofs.Places.{le_or_lt, Spans}
+use Rattle.spelling.proofs.Keys.{same_found}
+use Rattle.spelling.proofs.LineEnds.{Ends, at_end, ends_last, ends_next, ends_not, no_ten, spans_line, spans_end, line_stands}
+use Rattle.spelling.proofs.TextTrip.{lines_at, next_above}
 
--- ---- a line by itself
+pub some_or_none : {S : Type 0} (said : Option S) → ((s : S) → said ≡ Some s → ⊥) → said ≡ None
+some_or_none None f = refl
+some_or_none (Some s) f = absurd (f s refl)
 
-pub line_reads : (limit : ℕ) (s : Step) → limit ≤ 32 → is_writable limit s ≡ true → said_of limit (step_text s) ≡ Does s
-unfolding said_of
-line_reads limit s lim h =
-    rw (step_reads limit s (step_text s) 0 [] lim h at_end (sym (append-nil (step_text s)))) (rw (le-leb (length (step_text s)) (0 + length (step_text s)) (omega arith)) refl)
+-- ---- a text, line after line
 
-pub line_sound : (limit : ℕ) (line : List ℕ) (s : Step) → limit ≤ 32 → said_of limit line ≡ Does s → (line ≡ step_text s) × (is_writable limit s ≡ true)
-unfolding said_of
-line_sound limit line s lim got = go (step_at limit line 0) refl got
-  where
-    go : (f : StepFound) → step_at limit line 0 ≡ f → whole line f ≡ Does s → (line ≡ step_text s) × (is_writable limit s ≡ true)
-    go Unspelled e g = clash (cc)
-    go (Spelled t end) e g = split (leb (length line) end)
+module _ {S : Type 0} (said : List ℕ → Option S) where
+  pub all_read : (k : ℕ) (text : List ℕ) (at : ℕ) → length text ≤ at + k → read_all (line_from said text) k at ≡ map said (lines_of (drop at text))
+  unfolding read_all line_from lines_of
+  all_read zero text at h = rw (drop_of_length-le text {i = at} (omega arith)) refl
+  all_read (suc k) text at h =
+      ⊎_elim (λ (out : length text ≤ at). rw (le-ltb at (length text) out, drop_of_length-le text out) refl)
+      (λ (inn : at < length text).
+      let n = next_above text at inn in
+      rw (lt-ltb at (length text) inn, lines_at text at inn) (ap (λ (z : List (Option S)). said (line_at text at) ∷ z) (all_read k text (next_at text at) (omega arith))))
+      (le_or_lt (length text) at)
+
+  -- the line x stands at a place, and the next begins at `next`
+  pub record Reads (text : List ℕ) (at : ℕ) (x : Option S) (next : ℕ) : Type 0 where
+    pub lines : map said (lines_of (drop at text)) ≡ x ∷ map said (lines_of (drop next text))
+    pub above : at < next
+    pub within : next ≤ length text
+
+  module _ (text : List ℕ) (at : ℕ) where
+    pub line_reads_on : (x : Option S) (next : ℕ) → line_from said text at ≡ Some (x, next) → Reads text at x next
+    unfolding line_from
+    line_reads_on x next e = split (ltb at (length text))
         (λ h.
-        let g' : Does t ≡ Does s = rw h at g in
-        let a : t ≡ s = cc in
-        let r = step_sound limit line 0 t end lim e in
-        let z : drop end line ≡ [] = drop_of_length-le line (leb-true (length line) end h) in
-        rw (← a) (r.spans.stands ∙ rw (z, append-nil) refl, r.writable))
-        (λ h. let g' : Malformed ≡ Does s = rw h at g in clash (cc))
+        let p = same_found (rw h at e) in
+        let i = ltb-true at (length text) h in
+        record {
+          lines = rw (lines_at text at i, p.0, p.1) refl;
+          above = omega (arith, next_above text at i);
+          within = omega (arith, next_above text at i);
+        })
+        (λ h. clash (let u : None ≡ Some (x, next) = rw h at e in cc))
 
--- ---- no byte of a step is 10, so that a step's line ends behind the step
+    pub line_ends : line_from said text at ≡ None → map said (lines_of (drop at text)) ≡ []
+    unfolding line_from lines_of
+    line_ends e = split (ltb at (length text))
+        (λ h. clash (let u : Some (said (line_at text at), next_at text at) ≡ None = rw h at e in cc))
+        (λ h. rw (drop_of_length-le text (ltb-false at (length text) h)) refl)
 
-ten_members : (k b q : ℕ) (sep : List ℕ) → no_ten sep ≡ true → no_ten (members k b q sep) ≡ true
-unfolding no_ten
-ten_members zero b q sep h = rw (members_nil b q sep) refl
-ten_members (suc k) b q sep h =
-    ⊎_elim (λ (o : q % 2 ≡ 1). rw (members_odd k b q sep o) (ten_append sep _ h (ten_append (digits b) _ (ten_digits b) (ten_members k (b + 1) (q / 2) (44 ∷ []) refl))))
-    (λ (z : q % 2 ≡ 0). rw (members_even k b q sep z) (ten_members k (b + 1) (q / 2) sep h))
-    (parity q)
+-- a step that byte 10 follows
+pub read_ten : {S : Type 0} (step_at : List ℕ → ℕ → Found S) (text : List ℕ) (at : ℕ) (s : S) (end : ℕ) → at < length text → end < length text
+    → step_at text at ≡ Some (s, end) → get_or text end 0 ≡ 10 → read_from step_at text at ≡ Some (Some s, end + 1)
+unfolding read_from next_from
+read_ten step_at text at s end inside within e ten = rw (lt-ltb at (length text) inside, e, lt-ltb end (length text) within, eq-eqb (get_or text end 0) 10 ten) refl
 
-ten_world : (w : ℕ) → no_ten (world_text w) ≡ true
-unfolding world_text no_ten
-ten_world w = ten_members 32 1 w [] refl
+-- ---- a kind of steps
 
-pub ten_step : (s : Step) → no_ten (step_text s) ≡ true
-unfolding step_text no_ten
-ten_step (Start b v w) = ten_append (digits b.0) _ (ten_digits b.0) (ten_append (digits v.0) _ (ten_digits v.0) (ten_world w))
-ten_step (Abstain b) = ten_digits b.0
-ten_step (Leave b) = ten_digits b.0
-ten_step (Fail b) = ten_digits b.0
-ten_step (Turn b) = ten_digits b.0
-ten_step (Arrive b f) = ten_append (digits b.0) _ (ten_digits b.0) (ten_digits f.0)
-ten_step (Notice b f) = ten_append (digits b.0) _ (ten_digits b.0) (ten_digits f.0)
+-- what is spelled is read where the line ends behind it, what is read is spelled there, and no byte of a spelling is 10
+pub record Spelt {S : Type 0} (step_at : List ℕ → ℕ → Found S) (spelling : S → List ℕ) (spellable : S → Bool) : Type 0 where
+  pub reads : (s : S) (text : List ℕ) (at : ℕ) (rest : List ℕ) → spellable s ≡ true → Ends rest → drop at text ≡ spelling s ++ rest → step_at text at ≡ Some (s, at + length (spelling s))
+  pub stands : (text : List ℕ) (at : ℕ) (s : S) (end : ℕ) → step_at text at ≡ Some (s, end) → Spans text at (spelling s) end × (spellable s ≡ true)
+  pub no_ten_in : (s : S) → no_ten (spelling s) ≡ true
 
--- ---- a line where it stands in its text
+module _ {S : Type 0} {step_at : List ℕ → ℕ → Found S} {spelling : S → List ℕ} {spellable : S → Bool} (k : Spelt step_at spelling spellable) where
+  abbrev said : List ℕ → Option S
+  said line = whole line (step_at line 0)
 
--- a line that says a step is read as that step where it stands
-line_found : (limit : ℕ) (text : List ℕ) (at : ℕ) (s : Step) → limit ≤ 32 → said_of limit (line_at text at) ≡ Does s
-    → (end : ℕ) × (step_at limit text at ≡ Spelled s end) × Ends (drop end text)
-line_found limit text at s lim got =
-    let r = line_sound limit (line_at text at) s lim got in
-    let l = line_stands text at (step_text s) r.0 in
-    (at + length (step_text s), step_reads limit s text at l.0 lim r.1 l.2 l.1, l.3)
+  -- ---- a line by itself
 
-pub not_does : (l : Said) → ((s : Step) → l ≡ Does s → ⊥) → l ≡ Malformed
-not_does Malformed f = refl
-not_does (Does s) f = absurd (f s refl)
+  pub line_reads : (s : S) → spellable s ≡ true → said (spelling s) ≡ Some s
+  line_reads s h =
+      rw (k.reads s (spelling s) 0 [] h at_end (sym (append-nil (spelling s)))) (rw (le-leb (length (spelling s)) (0 + length (spelling s)) (omega arith)) refl)
 
-module _ (limit : ℕ) (text : List ℕ) (at : ℕ) where
-  pub read_end : length text ≤ at → End ≡ read_line_of limit text at
-  unfolding read_line_of
-  read_end h = rw (le-ltb at (length text) h) refl
+  pub line_sound : (line : List ℕ) (s : S) → said line ≡ Some s → (line ≡ spelling s) × (spellable s ≡ true)
+  line_sound line s got = go (step_at line 0) refl got
+    where
+      go : (f : Found S) → step_at line 0 ≡ f → whole line f ≡ Some s → (line ≡ spelling s) × (spellable s ≡ true)
+      go None e g = clash (cc)
+      go (Some (t, end)) e g = split (leb (length line) end)
+          (λ h.
+          let g' : Some t ≡ Some s = rw h at g in
+          let a : t ≡ s = cc in
+          let r = k.stands line 0 t end e in
+          let z : drop end line ≡ [] = drop_of_length-le line (leb-true (length line) end h) in
+          rw (← a) (r.0.stands ∙ rw (z, append-nil) refl, r.1))
+          (λ h. let g' : None ≡ Some s = rw h at g in clash (cc))
 
-  module _ (lim : limit ≤ 32) (in_text : at < length text) {f : StepFound} (e : f ≡ step_at limit text at) where
-    -- no step, or one that the line goes on behind
-    not_said : ((s : Step) (end : ℕ) → f ≡ Spelled s end → Ends (drop end text) → ⊥) → {r : Read} → r ≡ Next Malformed (next_at text at) → r ≡ read_line_of limit text at
-    unfolding read_line_of
-    not_said k q =
-        let m : said_of limit (line_at text at) ≡ Malformed = not_does (said_of limit (line_at text at)) (λ s g. let p = line_found limit text at s lim g in k s p.0 (e ∙ p.1) p.2) in
-        q ∙ rw (lt-ltb at (length text) in_text, m) refl
+  pub iff_spelled : (line : List ℕ) (s : S) → (said line ≡ Some s → (line ≡ spelling s) × (spellable s ≡ true)) × ((line ≡ spelling s) × (spellable s ≡ true) → said line ≡ Some s)
+  iff_spelled line s = (line_sound line s, λ h. rw h.0 (line_reads s h.1))
 
-    pub read_none : f ≡ Unspelled → {r : Read} → r ≡ Next Malformed (next_at text at) → r ≡ read_line_of limit text at
-    read_none u q = not_said (λ s end v n. clash (cc)) q
+  pub none_spelled : (line : List ℕ) → ((s : S) → spellable s ≡ true → line ≡ spelling s → ⊥) → said line ≡ None
+  none_spelled line f = some_or_none (said line) (λ s e. let r = line_sound line s e in f s r.1 r.0)
 
-    module _ (s : Step) (end : ℕ) (u : f ≡ Spelled s end) where
-      said : Ends (drop end text) → Next (Does s) (next_from text end) ≡ read_line_of limit text at
-      unfolding read_line_of next_at
-      said n =
-          let p = step_sound limit text at s end lim (sym e ∙ u) in
-          let t = ten_step s in
-          rw (lt-ltb at (length text) in_text, spans_line text at (step_text s) end p.spans t n, spans_end text at (step_text s) end p.spans t n, line_reads limit s lim p.writable) refl
+  pub one_spelled : (s t : S) → spellable s ≡ true → spellable t ≡ true → spelling s ≡ spelling t → s ≡ t
+  one_spelled s t h g e = let p = line_reads s h in let q = line_reads t g in let r : Some s ≡ Some t = sym p ∙ rw e q in cc
 
-      pub read_last : length text ≤ end → Next (Does s) end ≡ read_line_of limit text at
-      unfolding next_from
-      read_last h = ap (λ (k : ℕ). Next (Does s) k) (rw (le-ltb end (length text) h) refl) ∙ said (ends_last text end h)
+  -- ---- a line where it stands in its text
 
-      pub read_next : end < length text → get_or text end 0 ≡ 10 → Next (Does s) (end + 1) ≡ read_line_of limit text at
-      unfolding next_from
-      read_next h t = ap (λ (k : ℕ). Next (Does s) k) (rw (lt-ltb end (length text) h) refl) ∙ said (ends_next text end h t)
+  -- a line that says a step is read as that step where it stands
+  found : (text : List ℕ) (at : ℕ) (s : S) → said (line_at text at) ≡ Some s → (end : ℕ) × (step_at text at ≡ Some (s, end)) × Ends (drop end text)
+  found text at s got =
+      let r = line_sound (line_at text at) s got in
+      let l = line_stands text at (spelling s) r.0 in
+      (at + length (spelling s), k.reads s text at l.0 r.1 l.2 l.1, l.3)
 
-      pub read_on : end < length text → (get_or text end 0 ≡ 10 → ⊥) → {r : Read} → r ≡ Next Malformed (next_at text at) → r ≡ read_line_of limit text at
-      read_on h t q = not_said (λ s' end' v n. let same : end ≡ end' = cc in ends_not text end h t (rw (← same) at n)) q
+  -- no step, or one that the line goes on behind
+  not_said : (text : List ℕ) (at : ℕ) → ((s : S) (end : ℕ) → step_at text at ≡ Some (s, end) → Ends (drop end text) → ⊥) → said (line_at text at) ≡ None
+  not_said text at f = some_or_none (said (line_at text at)) (λ s g. let p = found text at s g in f s p.0 p.1 p.2)
+
+  ends_is : (text : List ℕ) (end : ℕ) → ends_at text end ≡ true → Ends (drop end text)
+  ends_is text end h = split (ltb end (length text))
+      (λ e. ends_next text end (ltb-true end (length text) e) (eqb-true (get_or text end 0) 10 (rw e at h)))
+      (λ e. ends_last text end (ltb-false end (length text) e))
+
+  ends_none : (text : List ℕ) (end : ℕ) → ends_at text end ≡ false → Ends (drop end text) → ⊥
+  ends_none text end h = split (ltb end (length text))
+      (λ e. ends_not text end (ltb-true end (length text) e) (eqb-false (get_or text end 0) 10 (rw e at h)))
+      (λ e. let g : true ≡ false = rw e at h in clash (cc))
+
+  -- what a line says is what is read where it stands
+  pub line_read : (text : List ℕ) (at : ℕ) → read_from step_at text at ≡ line_from said text at
+  unfolding read_from line_from next_at
+  line_read text at = go (step_at text at) refl
+    where
+      go : (f : Found S) → step_at text at ≡ f → cond (ltb at (length text)) (Some (ended text at f)) None ≡ cond (ltb at (length text)) (Some (said (line_at text at), next_at text at)) None
+      go None e = let m = not_said text at (λ s end g n. clash (cc)) in rw m refl
+      go (Some (s, end)) e = split (ends_at text end)
+          (λ h.
+          let p = k.stands text at s end e in
+          let t = k.no_ten_in s in
+          let n = ends_is text end h in
+          rw (h, spans_line text at (spelling s) end p.0 t n, spans_end text at (spelling s) end p.0 t n, line_reads s p.1) refl)
+          (λ h.
+          let m = not_said text at (λ s' end' g n. let same = same_found (sym e ∙ g) in ends_none text end h (rw (← same.1) at n)) in
+          rw (h, m) refl)

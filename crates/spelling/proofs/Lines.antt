@@ -3,14 +3,12 @@ use Prim.Native.Nat.{ℕ, suc, ◌+◌, ◌≤◌, ◌<◌}
 use native.Mathlib.Omega.{arith}
 use mathlib.Core.Bool.{Bool, true, false, false≢true, ◌||◌}
 use mathlib.Core.List.{List, [], ◌∷◌}
-use mathlib.Core.Path.{◌≡◌, refl, sym, ap, ◌∙◌}
+use mathlib.Core.Path.{◌≡◌, refl, sym, ◌∙◌}
 use lib.Dec.{eqb}
 use lib.ListN.{length, get_or, drop, drop_of_length-le}
 use borrow.Author.Tests.{eq-eqb, ne_eqb, eqb-false, lt-ltb, le-ltb}
 use Rattle.common.proofs.Tests.{cond_ind}
 use Rattle.spelling.proofs.Places.{cut}
-use Rattle.spelling.specs.declared.Said.TheVariants.{Malformed}
-use Rattle.spelling.specs.declared.Read.TheVariants.{Next}
 use Rattle.spelling.specs.Fields.{line_length, next_from, next_at}
 
 -- ---- the end, byte by byte, as the code looks for it
@@ -110,9 +108,3 @@ module _ (text : List ℕ) (at : ℕ) {end : ℕ} (e : end ≡ at + line_length 
   pub place_last : length text ≤ end → end ≡ next_at text at
   unfolding next_at next_from
   place_last h = rw (← e, le-ltb end (length text) h) refl
-
-  pub next_more : end < length text → Next Malformed (end + 1) ≡ Next Malformed (next_at text at)
-  next_more h = ap (λ (k : ℕ). Next Malformed k) (place_more h)
-
-  pub next_last : length text ≤ end → Next Malformed end ≡ Next Malformed (next_at text at)
-  next_last h = ap (λ (k : ℕ). Next Malformed k) (place_last h)

@@ -3,23 +3,23 @@ use Prim.Native.Nat.{ℕ, zero, suc, ◌+◌, ◌-◌, ◌*◌, ◌/◌, ◌%◌
 use native.Mathlib.Omega.{arith}
 use native.Mathlib.Nat.{zero-add}
 use native.Mathlib.Numerals.{add-one, sub-one}
+use mathlib.Core.Bool.{Bool, true, false, cond}
 use mathlib.Core.List.{List, [], ◌∷◌, ◌++◌, append_assoc}
 use mathlib.Core.Logic.{⊎_elim}
 use mathlib.Core.Path.{◌≡◌, refl, sym, ap, ◌∙◌}
-use lib.Dec.{lit<}
+use lib.Dec.{eqb, lit<}
 use lib.ListN.{length, get_or, length-append}
 use lib.Pow.{pow-add, pow_mono}
-use borrow.Author.Tests.{lt-ltb, le-ltb, le-leb, lt-leb, eq-eqb, ne_eqb}
-use Rattle.spelling.specs.declared.Found.{Found}
-use Rattle.spelling.specs.declared.Found.TheVariants.{Got, Nothing}
+use borrow.Author.Tests.{lt-ltb, le-ltb, le-leb, lt-leb, eq-eqb, ne_eqb, eqb-true}
+use Rattle.std.specs.Prelude.{Some, None}
+use Rattle.spelling.proofs.Keys.{same_found, none_found}
 use Rattle.spelling.specs.Numbers.{digits}
 use Rattle.spelling.specs.Spelling.{members, world_text}
 use Rattle.spelling.specs.Stored.{Stored}
 use Rattle.spelling.specs.Storing.{sep_at}
-use Rattle.spelling.specs.Fields.{number_at}
+use Rattle.spelling.specs.Fields.{Found, number_at}
 use Rattle.spelling.specs.Reading.{bit_of, member_at, members_at, world_at}
 use Rattle.spelling.proofs.Places.{le_or_lt, byte_within}
-use Rattle.spelling.proofs.NumberTrip.{none_found}
 use Rattle.spelling.proofs.Decimals.{digits_length}
 use Rattle.spelling.proofs.Stores.{Left, left_start, left_step, left_end, left_room}
 
@@ -28,42 +28,42 @@ pow_next b = rw (← add-one b) (pow-add 2 b 1)
 
 -- ---- one member read
 
-module _ (limit : ℕ) (text : List ℕ) (at last : ℕ) {n : Found} (p : n ≡ number_at text at) where
-  pub member_none : n ≡ Nothing → Nothing ≡ member_at limit text at last
+module _ (limit : ℕ) (text : List ℕ) (at last : ℕ) where
+  pub member_none : None ≡ number_at text at → None ≡ member_at limit text at last
   unfolding member_at
-  member_none q = rw (← p, q) refl
+  member_none q = rw (← q) refl
 
-  module _ (b next : ℕ) (q : n ≡ Got b next) where
-    pub member_low : b ≤ last → Nothing ≡ member_at limit text at last
+  module _ (b next : ℕ) (q : ◌≡◌ {A = Found ℕ} (Some (b, next)) (number_at text at)) where
+    pub member_low : b ≤ last → None ≡ member_at limit text at last
     unfolding member_at
-    member_low h = rw (← p, q) (rw (le-ltb last b h) refl)
+    member_low h = rw (← q) (rw (le-ltb last b h) refl)
 
-    pub member_high : last < b → limit < b → Nothing ≡ member_at limit text at last
+    pub member_high : last < b → limit < b → None ≡ member_at limit text at last
     unfolding member_at
-    member_high h k = rw (← p, q) (rw (lt-ltb last b h, lt-leb b limit k) refl)
+    member_high h k = rw (← q) (rw (lt-ltb last b h, lt-leb b limit k) refl)
 
-    pub member_got : last < b → b ≤ limit → Got b next ≡ member_at limit text at last
+    pub member_got : last < b → b ≤ limit → Some (b, next) ≡ member_at limit text at last
     unfolding member_at
-    member_got h k = rw (← p, q) (rw (lt-ltb last b h, le-leb b limit k) refl)
+    member_got h k = rw (← q) (rw (lt-ltb last b h, le-leb b limit k) refl)
 
 pub record MemberIs (limit : ℕ) (text : List ℕ) (at last b next : ℕ) : Type 0 where
-  pub number : number_at text at ≡ Got b next
+  pub number : number_at text at ≡ Some (b, next)
   pub above : last < b
   pub most : b ≤ limit
 
-pub member_sound : (limit : ℕ) (text : List ℕ) (at last b next : ℕ) → member_at limit text at last ≡ Got b next → MemberIs limit text at last b next
+pub member_sound : (limit : ℕ) (text : List ℕ) (at last b next : ℕ) → member_at limit text at last ≡ Some (b, next) → MemberIs limit text at last b next
 member_sound limit text at last b next got = go (number_at text at) refl
   where
-    go : (n : Found) → number_at text at ≡ n → MemberIs limit text at last b next
-    go Nothing e = none_found (member_none limit text at last refl e ∙ got)
-    go (Got v n) e =
-        ⊎_elim (λ (low : v ≤ last). none_found (member_low limit text at last refl v n e low ∙ got))
+    go : (n : Found ℕ) → number_at text at ≡ n → MemberIs limit text at last b next
+    go None e = none_found (member_none limit text at last (sym e) ∙ got)
+    go (Some (v, n)) e =
+        ⊎_elim (λ (low : v ≤ last). none_found (member_low limit text at last v n (sym e) low ∙ got))
         (λ (up : last < v).
         ⊎_elim (λ (h : v ≤ limit).
-        let same : Got v n ≡ Got b next = member_got limit text at last refl v n e up h ∙ got in
-        let a : v ≡ b = cc in
-        record { number = e ∙ same; above = omega arith; most = omega arith })
-        (λ (h : limit < v). none_found (member_high limit text at last refl v n e up h ∙ got))
+        let same : number_at text at ≡ Some (b, next) = e ∙ (member_got limit text at last v n (sym e) up h ∙ got) in
+        let a : v ≡ b = (same_found (sym e ∙ same)).0 in
+        record { number = same; above = omega arith; most = omega arith })
+        (λ (h : limit < v). none_found (member_high limit text at last v n (sym e) up h ∙ got))
         (le_or_lt v limit))
         (le_or_lt v last)
 
@@ -73,50 +73,65 @@ bit_more : (world last b : ℕ) → world < 2 ^ last → last < b → world + bi
 bit_more world last zero h k = absurd (omega arith)
 bit_more world last (suc b) h k = let below : last ≤ b = omega arith in rw sub-one (omega (arith, pow_next b, pow_mono below))
 
--- the reader stands at `at`, behind the bench `last`, with the members so far and room for so many more
-pub record Listed (limit : ℕ) (text : List ℕ) (from at last world room : ℕ) : Type 0 where
+-- a bench's bit as a word of 32 bits has it
+pub word_bit : (b : ℕ) {bit : ℕ} → bit ≡ 2 ^ (b - 1) % 2 ^ 32 → 0 < b → b ≤ 32 → bit ≡ bit_of b
+word_bit b e pos top =
+    let below : b - 1 ≤ 31 = omega arith in
+    omega (arith, pow_mono below)
+
+-- the reader stands at `at`, behind the bench `last`, with the members so far, and there is room for all that may follow
+pub record Listed (limit : ℕ) (text : List ℕ) (from at last world : ℕ) : Type 0 where
+  room : ℕ
+  enough : limit ≤ last + room
   pub under : world < 2 ^ last
   pub rest : world_at limit text from ≡ members_at room limit text at last world
 
-pub listed_none : (limit : ℕ) (text : List ℕ) (from : ℕ) → Listed limit text from from 0 0 limit
+pub listed_none : (limit : ℕ) (text : List ℕ) (from : ℕ) → Listed limit text from from 0 0
 unfolding world_at
-listed_none limit text from = record { under = lit< tt; rest = refl }
+listed_none limit text from = record { room = limit; enough = omega arith; under = lit< tt; rest = refl }
 
-module _ (limit : ℕ) (text : List ℕ) (from at last world room : ℕ) (p : Listed limit text from at last world room) where
-  pub listed_over : room ≤ 0 → Nothing ≡ world_at limit text from
+module _ (limit : ℕ) (text : List ℕ) (from at last world : ℕ) (p : Listed limit text from at last world) where
+  pub listed_fails : None ≡ member_at limit text at last → None ≡ world_at limit text from
   unfolding members_at
-  listed_over h = let z : room ≡ 0 = omega arith in sym (p.rest ∙ rw z refl)
+  listed_fails q = sym (p.rest ∙ fails p.room)
+    where
+      fails : (room : ℕ) → members_at room limit text at last world ≡ None
+      fails zero = refl
+      fails (suc room) = rw (← q) refl
 
-  counted : 0 < room → world_at limit text from ≡ members_at (suc (room - 1)) limit text at last world
-  counted h = p.rest ∙ ap (λ (r : ℕ). members_at r limit text at last world) (omega arith)
+  module _ (b next : ℕ) (q : ◌≡◌ {A = Found ℕ} (Some (b, next)) (member_at limit text at last)) where
+    pub listed_member : MemberIs limit text at last b next
+    listed_member = member_sound limit text at last b next (sym q)
 
-  module _ (h : 0 < room) {n : Found} (e : n ≡ member_at limit text at last) where
-    pub listed_fails : n ≡ Nothing → Nothing ≡ world_at limit text from
+    -- what follows the member
+    follows : world_at limit text from ≡ cond (eqb (get_or text next 0) 44) (members_at (p.room - 1) limit text (next + 1) b (world + bit_of b)) (Some (world + bit_of b, next))
     unfolding members_at
-    listed_fails q = sym (counted h ∙ rw (← e, q) refl)
+    follows =
+        let m = listed_member in
+        let more : p.room ≡ suc (p.room - 1) = omega (arith, p.enough, m.above, m.most) in
+        p.rest ∙ ap (λ (r : ℕ). members_at r limit text at last world) more ∙ rw (← q) refl
 
-    module _ (b next : ℕ) (q : n ≡ Got b next) where
-      pub listed_member : MemberIs limit text at last b next
-      listed_member = member_sound limit text at last b next (sym e ∙ q)
+    module _ (k : limit ≤ 32) {bit : ℕ} (w : bit ≡ 2 ^ (b - 1) % 2 ^ 32) where
+      s : bit ≡ bit_of b
+      s = let m = listed_member in word_bit b w (omega (arith, m.above)) (omega (arith, m.most))
 
-      module _ {bit : ℕ} (s : bit ≡ bit_of b) where
-        pub listed_under : world + bit < 2 ^ b
-        listed_under = rw s (bit_more world last b p.under listed_member.above)
+      pub listed_under : world + bit < 2 ^ b
+      listed_under = rw s (bit_more world last b p.under listed_member.above)
 
-        pub listed_fits : limit ≤ 32 → world + bit < 2 ^ 32
-        listed_fits k = let m = listed_member in let c : b ≤ 32 = omega (arith, m.most) in omega (arith, listed_under, pow_mono c)
+      pub listed_fits : world + bit < 2 ^ 32
+      listed_fits = let m = listed_member in let c : b ≤ 32 = omega (arith, m.most) in omega (arith, listed_under, pow_mono c)
 
-        module _ {byte : ℕ} (t : byte ≡ get_or text next 0) where
-          pub listed_last : (byte ≡ 44 → ⊥) → Got (world + bit) next ≡ world_at limit text from
-          unfolding members_at
-          listed_last k = sym (counted h ∙ rw (← e, q) (rw (ne_eqb (get_or text next 0) 44 (λ z. k (t ∙ z)), s) refl))
+      module _ {comma : Bool} (t : comma ≡ eqb (get_or text next 0) 44) where
+        pub listed_last : comma ≡ false → Some (world + bit, next) ≡ world_at limit text from
+        listed_last q = sym (follows ∙ rw (sym t ∙ q, s) refl)
 
-          pub listed_more : byte ≡ 44 → Listed limit text from (next + 1) b (world + bit) (room - 1)
-          unfolding members_at
-          listed_more k = record { under = listed_under; rest = counted h ∙ rw (← e, q) (rw (eq-eqb (get_or text next 0) 44 (sym t ∙ k), s) refl) }
+        pub listed_more : comma ≡ true → Listed limit text from (next + 1) b (world + bit)
+        listed_more q =
+            let m = listed_member in
+            record { room = p.room - 1; enough = omega (arith, p.enough, m.above); under = listed_under; rest = follows ∙ rw (sym t ∙ q, s) refl }
 
-          pub listed_next : byte ≡ 44 → next + 1 ≤ length text
-          listed_next k = byte_within text next (omega arith)
+        pub listed_next : comma ≡ true → next < length text
+        listed_next q = let c = eqb-true (get_or text next 0) 44 (sym t ∙ q) in omega (arith, byte_within text next (omega arith))
 
 -- ---- members written
 

@@ -10,8 +10,9 @@ use mathlib.Core.Path.{◌≡◌, refl, sym, ap, ◌∙◌}
 use lib.Dec.{leb}
 use lib.ListN.{length, get_or, drop, length-append}
 use borrow.Author.Tests.{le-leb, lt-leb}
-use Rattle.common.proofs.Tests.{clash, split}
-use Rattle.spelling.specs.declared.Found.TheVariants.{Got, Nothing}
+use Rattle.std.specs.Prelude.{Some}
+use Rattle.common.proofs.Tests.{split}
+use Rattle.spelling.proofs.Keys.{same_found, none_found}
 use Rattle.spelling.specs.Numbers.{digits}
 use Rattle.spelling.specs.Fields.{digit_of, digit_at, more_digits, number_upto, number_at, below}
 use Rattle.spelling.proofs.Places.{le_or_lt, here, past, cut, Spans, spans_then}
@@ -64,7 +65,7 @@ digits_read more (suc k) n text at r rest pos h t room e =
 
 -- behind the number stands no digit
 pub upto_reads : (more n : ℕ) (text : List ℕ) (at : ℕ) (rest : List ℕ) → n < 10000000000 → length (digits n) ≤ suc more → drop at text ≡ digits n ++ rest → 10 ≤ digit_at text (at + length (digits n))
-    → number_upto more text at ≡ Got n (at + length (digits n))
+    → number_upto more text at ≡ Some (n, at + length (digits n))
 upto_reads more n text at rest t h e stop =
     ⊎_elim (λ (pos : 1 ≤ n).
     digits_read more 10 n text at (suc more - length (digits n)) rest pos t t (omega arith) e ∙ more_stop _ text _ n refl stop)
@@ -77,7 +78,7 @@ upto_reads more n text at rest t h e stop =
     (le_or_lt 1 n)
 
 pub number_reads : (n : ℕ) (text : List ℕ) (at : ℕ) (rest : List ℕ) → n < 100000 → drop at text ≡ digits n ++ rest → 10 ≤ digit_at text (at + length (digits n))
-    → number_at text at ≡ Got n (at + length (digits n))
+    → number_at text at ≡ Some (n, at + length (digits n))
 unfolding number_at
 number_reads n text at rest h e stop = upto_reads 4 n text at rest (omega arith) (small_length n h).1 e stop
 
@@ -103,18 +104,13 @@ below_suc w r v ten h = split (leb (suc r) w)
     omega arith)
     (λ e. let g : v < 0 = rw e at h in absurd (omega arith))
 
-pub none_found : {A : Type 0} {n next : ℕ} → Nothing ≡ Got n next → A
-none_found e = clash (cc)
-
 module _ (w : ℕ) where
-  stopped : (r : ℕ) (text : List ℕ) (from at v n next : ℕ) → v < below w r → Spans text from (digits v) at → 10 ≤ digit_at text at → more_digits r text at v ≡ Got n next → NumberIs w text from n next
+  stopped : (r : ℕ) (text : List ℕ) (from at v n next : ℕ) → v < below w r → Spans text from (digits v) at → 10 ≤ digit_at text at → more_digits r text at v ≡ Some (n, next) → NumberIs w text from n next
   stopped r text from at v n next h s stop got =
-      let same : Got v at ≡ Got n next = sym (more_stop r text at v refl stop) ∙ got in
-      let a : v ≡ n = cc in
-      let b : at ≡ next = cc in
-      record { spans = rw (← a, ← b) s; small = omega (arith, below_most w r) }
+      let same = same_found (sym (more_stop r text at v refl stop) ∙ got) in
+      record { spans = rw (← same.0, ← same.1) s; small = omega (arith, below_most w r) }
 
-  more_sound : (r : ℕ) (text : List ℕ) (from at v n next : ℕ) → w ≤ 10 → 0 < v → v < below w r → Spans text from (digits v) at → more_digits r text at v ≡ Got n next → NumberIs w text from n next
+  more_sound : (r : ℕ) (text : List ℕ) (from at v n next : ℕ) → w ≤ 10 → 0 < v → v < below w r → Spans text from (digits v) at → more_digits r text at v ≡ Some (n, next) → NumberIs w text from n next
   more_sound zero text from at v n next ten pos h s got =
       ⊎_elim (λ (stop : 10 ≤ digit_at text at). stopped 0 text from at v n next h s stop got)
       (λ (d : digit_at text at < 10). none_found (sym (more_none text at v refl d) ∙ got))
@@ -128,7 +124,7 @@ module _ (w : ℕ) where
       more_sound r text from (at + 1) (v * 10 + x) n next ten (omega arith) top s' (sym (more_step r text at v refl d) ∙ got))
       (le_or_lt 10 (digit_at text at))
 
-pub upto_sound : (more : ℕ) (text : List ℕ) (at n next : ℕ) → more ≤ 9 → number_upto more text at ≡ Got n next → NumberIs (suc more) text at n next
+pub upto_sound : (more : ℕ) (text : List ℕ) (at n next : ℕ) → more ≤ 9 → number_upto more text at ≡ Some (n, next) → NumberIs (suc more) text at n next
 upto_sound more text at n next nine got =
     ⊎_elim (λ (stop : 10 ≤ digit_at text at). none_found (upto_none more text at refl stop ∙ got))
     (λ (d : digit_at text at < 10).
@@ -136,13 +132,13 @@ upto_sound more text at n next nine got =
     let s : Spans text at (digits x) (at + 1) = rw (digits_small x d) (cut_digit text at d) in
     ⊎_elim (λ (pos : 1 ≤ x). more_sound (suc more) more text at (at + 1) x n next (omega arith) pos (first_more more x d) s (upto_more more text at refl d (λ z. omega arith) refl ∙ got))
     (λ (none : x < 1).
-    let got' : more_digits 0 text (at + 1) x ≡ Got n next = upto_zero more text at refl d (omega arith) refl ∙ got in
+    let got' : more_digits 0 text (at + 1) x ≡ Some (n, next) = upto_zero more text at refl d (omega arith) refl ∙ got in
     ⊎_elim (λ (stop : 10 ≤ digit_at text (at + 1)). stopped (suc more) 0 text at (at + 1) x n next (first_none (suc more) x (omega arith)) s stop got')
     (λ (more : digit_at text (at + 1) < 10). none_found (sym (more_none text (at + 1) x refl more) ∙ got'))
     (le_or_lt 10 (digit_at text (at + 1))))
     (le_or_lt 1 x))
     (le_or_lt 10 (digit_at text at))
 
-pub number_sound : (text : List ℕ) (at n next : ℕ) → number_at text at ≡ Got n next → NumberIs 5 text at n next
+pub number_sound : (text : List ℕ) (at n next : ℕ) → number_at text at ≡ Some (n, next) → NumberIs 5 text at n next
 unfolding number_at
 number_sound text at n next got = upto_sound 4 text at n next (omega arith) got

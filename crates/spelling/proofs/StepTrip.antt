@@ -1,32 +1,27 @@
 -- Steps there and back: where a step is spelled and the line ends behind it, `step_at` reads it, and what it reads is spelled there. Assumes nothing.
 use Prim.Native.Nat.{ℕ, ◌+◌, ◌≤◌, ◌<◌}
 use native.Mathlib.Omega.{arith}
-use mathlib.Core.Bool.{true, cond, ◌&&◌}
+use mathlib.Core.Bool.{true, ◌&&◌}
 use mathlib.Core.List.{List, ◌++◌, append_assoc}
 use mathlib.Core.Path.{◌≡◌, refl, ap, ◌∙◌}
 use lib.ListN.{length, drop, length-append}
 use borrow.Author.Tests.{lt-ltb, ltb-true}
-use Rattle.common.proofs.Tests.{both, split, clash}
+use Rattle.std.specs.Prelude.{Some}
+use Rattle.common.proofs.Tests.{both}
 use Rattle.kinds.specs.declared.BenchNo.{BenchNo}
 use Rattle.kinds.specs.declared.Step.{Step}
 use Rattle.kinds.specs.declared.Step.TheVariants.{Start, Abstain, Leave, Fail, Turn, Arrive, Notice}
-use Rattle.spelling.specs.declared.Found.{Found}
-use Rattle.spelling.specs.declared.Found.TheVariants.{Got}
 use Rattle.spelling.specs.declared.Verb.{Verb}
 use Rattle.spelling.specs.declared.Verb.TheVariants as verb
-use Rattle.spelling.specs.declared.VerbFound.{VerbFound}
-use Rattle.spelling.specs.declared.VerbFound.TheVariants.{Known, Unknown}
-use Rattle.spelling.specs.declared.StepFound.{StepFound}
-use Rattle.spelling.specs.declared.StepFound.TheVariants.{Spelled, Unspelled}
 use Rattle.spelling.specs.Numbers.{ascii, digits}
 use Rattle.spelling.specs.Spelling.{world_text, step_text, is_small, is_world, is_writable}
-use Rattle.spelling.specs.Fields.{is_prefix, digit_at, number_at, field_at, on}
-use Rattle.spelling.specs.Reading.{world_at, key_of, rare_verb_at, verb_at, start_at, from_at, rest_at, on_verb, step_at}
+use Rattle.spelling.specs.Fields.{behind, is_prefix, digit_at, number_at, field_at, Found}
+use Rattle.spelling.specs.Reading.{world_at, key_of, verbs, verb_at, start_at, from_at, rest_at, step_at}
 use Rattle.spelling.proofs.Places.{past, Spans, spans_then}
-use Rattle.spelling.proofs.Keys.{key_spans}
+use Rattle.spelling.proofs.Keys.{same_found, named_sound, behind_spans}
 use Rattle.spelling.proofs.NumberTrip.{number_reads, number_sound}
 use Rattle.spelling.proofs.LineEnds.{Ends, ends_byte}
-use Rattle.spelling.proofs.FieldTrip.{both_true, space_stops, field_reads, field_sound, on_got}
+use Rattle.spelling.proofs.FieldTrip.{both_true, space_stops, field_reads, field_sound, found_first}
 use Rattle.spelling.proofs.WorldTrip.{Stops, world_reads, world_sound}
 
 -- ---- what stands behind a number or a world
@@ -36,8 +31,8 @@ ends_stop text at n e = let b = ends_byte text at n e in record { no_digit = b.0
 
 -- ---- what is written is read
 
-verb_reads : (v : Verb) (text : List ℕ) (at : ℕ) (rest : List ℕ) → drop at text ≡ key_of v ++ rest → verb_at text at ≡ Known v (at + length (key_of v))
-unfolding verb_at rare_verb_at key_of is_prefix
+verb_reads : (v : Verb) (text : List ℕ) (at : ℕ) (rest : List ℕ) → drop at text ≡ key_of v ++ rest → verb_at text at ≡ Some (v, at + length (key_of v))
+unfolding verb_at key_of behind is_prefix
 verb_reads verb.Start text at rest e = rw e refl
 verb_reads verb.Abstain text at rest e = rw e refl
 verb_reads verb.Leave text at rest e = rw e refl
@@ -49,7 +44,7 @@ verb_reads verb.Notice text at rest e = rw e refl
 -- the bench of a step, and what follows it
 head_reads : (limit : ℕ) (v : Verb) (text : List ℕ) (at b : ℕ) (rest : List ℕ) → b < 100000 → drop at text ≡ ascii "step=" ++ (key_of v ++ (digits b ++ rest))
     → 10 ≤ digit_at text (at + 5 + length (key_of v) + length (digits b)) → step_at limit text at ≡ rest_at limit text (at + 5 + length (key_of v) + length (digits b)) v b
-unfolding step_at is_prefix
+unfolding step_at behind is_prefix
 head_reads limit v text at b rest h e stop =
     let e₅ : drop (at + 5) text ≡ key_of v ++ (digits b ++ rest) = past text at (ascii "step=") e in
     let n = number_reads b text (at + 5 + length (key_of v)) rest h (past text (at + 5) (key_of v) e₅) stop in
@@ -68,7 +63,7 @@ one_reads limit v text at b rest h n e =
 -- a step with a sender behind its bench
 two_reads : (limit : ℕ) (v : Verb) (step : BenchNo → BenchNo → Step) (text : List ℕ) (at b f : ℕ) (rest : List ℕ) → ((n : ℕ) → rest_at limit text n v b ≡ from_at step text n b)
     → is_small b ≡ true → is_small f ≡ true → Ends rest → drop at text ≡ (ascii "step=" ++ (key_of v ++ (digits b ++ (ascii " from=" ++ digits f)))) ++ rest
-    → step_at limit text at ≡ Spelled (step (record { 0 = b }) (record { 0 = f })) (at + length (ascii "step=" ++ (key_of v ++ (digits b ++ (ascii " from=" ++ digits f)))))
+    → step_at limit text at ≡ Some (step (record { 0 = b }) (record { 0 = f }), at + length (ascii "step=" ++ (key_of v ++ (digits b ++ (ascii " from=" ++ digits f)))))
 unfolding from_at
 two_reads limit v step text at b f rest same hb hf n e =
     let F = ascii " from=" in
@@ -84,8 +79,8 @@ two_reads limit v step text at b f rest same hb hf n e =
 
 start_reads : (limit : ℕ) (text : List ℕ) (at b v w : ℕ) (rest : List ℕ) → limit ≤ 32 → is_small b ≡ true → is_small v ≡ true → is_world limit w ≡ true → Ends rest
     → drop at text ≡ (ascii "step=start bench=" ++ (digits b ++ (ascii " value=" ++ (digits v ++ (ascii " world=" ++ world_text w))))) ++ rest
-    → step_at limit text at ≡ Spelled (Start (record { 0 = b }) (record { 0 = v }) w) (at + length (ascii "step=start bench=" ++ (digits b ++ (ascii " value=" ++ (digits v ++ (ascii " world=" ++ world_text w))))))
-unfolding rest_at start_at key_of is_prefix
+    → step_at limit text at ≡ Some (Start (record { 0 = b }) (record { 0 = v }) w, at + length (ascii "step=start bench=" ++ (digits b ++ (ascii " value=" ++ (digits v ++ (ascii " world=" ++ world_text w))))))
+unfolding rest_at start_at key_of behind is_prefix
 start_reads limit text at b v w rest lim hb hv hw n e =
     let S = ascii "step=start bench=" in
     let K = ascii " value=" in
@@ -107,7 +102,7 @@ start_reads limit text at b v w rest lim hb hv hw n e =
     (rw e₂ (rw (world_reads limit w text (n₂ + 7) rest lim hw (past text n₂ W e₂) (rw len s), len) refl))
 
 pub step_reads : (limit : ℕ) (s : Step) (text : List ℕ) (at : ℕ) (rest : List ℕ) → limit ≤ 32 → is_writable limit s ≡ true → Ends rest → drop at text ≡ step_text s ++ rest
-    → step_at limit text at ≡ Spelled s (at + length (step_text s))
+    → step_at limit text at ≡ Some (s, at + length (step_text s))
 unfolding step_text is_writable rest_at key_of
 step_reads limit (Start b v w) text at rest lim h n e =
     let p = both (is_small b.0 && is_small v.0) (is_world limit w) h in
@@ -131,70 +126,35 @@ pub record StepIs (limit : ℕ) (text : List ℕ) (at : ℕ) (s : Step) (end : �
   pub spans : Spans text at (step_text s) end
   pub writable : is_writable limit s ≡ true
 
--- a reader that found what it looked for went through each of its parts
-none_spelled : {A : Type 0} {s : Step} {end : ℕ} → Unspelled ≡ Spelled s end → A
-none_spelled e = clash (cc)
-
-on_found : {s : Step} {end : ℕ} (n : Found) (f : ℕ → ℕ → StepFound) → on Unspelled n f ≡ Spelled s end → (v : ℕ) × (next : ℕ) × (n ≡ Got v next) × (f v next ≡ Spelled s end)
-on_found n f e = on_got n f none_spelled e
-
-tried_sound : (text : List ℕ) (at : ℕ) (u v : Verb) (next : ℕ) (other : VerbFound) → (other ≡ Known v next → Spans text at (key_of v) next)
-    → cond (is_prefix (key_of u) (drop at text)) (Known u (at + length (key_of u))) other ≡ Known v next → Spans text at (key_of v) next
-tried_sound text at u v next other f got = split (is_prefix (key_of u) (drop at text))
-    (λ e.
-    let g : Known u (at + length (key_of u)) ≡ Known v next = rw e at got in
-    let a : u ≡ v = cc in
-    let b : at + length (key_of u) ≡ next = cc in
-    rw (← b, ← a) (key_spans (key_of u) text at e))
-    (λ e. f (rw e at got))
-
-rare_sound : (text : List ℕ) (at : ℕ) (v : Verb) (next : ℕ) → rare_verb_at text at ≡ Known v next → Spans text at (key_of v) next
-unfolding rare_verb_at
-rare_sound text at v next got =
-    tried_sound text at verb.Start v next _ (λ g₁. tried_sound text at verb.Abstain v next _ (λ g₂. tried_sound text at verb.Leave v next _
-    (λ g₃. tried_sound text at verb.Fail v next _ (λ g₄. clash (cc)) g₃) g₂) g₁) got
-
-verb_sound : (text : List ℕ) (at : ℕ) (v : Verb) (next : ℕ) → verb_at text at ≡ Known v next → Spans text at (key_of v) next
-unfolding verb_at
-verb_sound text at v next got =
-    tried_sound text at verb.Arrive v next _ (λ g₁. tried_sound text at verb.Turn v next _ (λ g₂. tried_sound text at verb.Notice v next _ (λ g₃. rare_sound text at v next g₃) g₂) g₁) got
-
 -- the bench b was read, up to `next`; what the rest makes of it
 module _ (limit : ℕ) (text : List ℕ) (at b next : ℕ) (small : is_small b ≡ true) where
-  here_is : (s t : Step) (end : ℕ) → Spelled s next ≡ Spelled t end → StepIs limit text at s next → StepIs limit text at t end
-  here_is s t end e r = let a : s ≡ t = cc in let b : next ≡ end = cc in rw (← a, ← b) r
+  here_is : (s t : Step) (end : ℕ) → ◌≡◌ {A = Found Step} (Some (s, next)) (Some (t, end)) → StepIs limit text at s next → StepIs limit text at t end
+  here_is s t end e r = let same = same_found e in rw (← same.0, ← same.1) r
 
-  from_sound : (step : BenchNo → BenchNo → Step) (t : Step) (end : ℕ) → from_at step text next b ≡ Spelled t end
+  from_sound : (step : BenchNo → BenchNo → Step) (t : Step) (end : ℕ) → from_at step text next b ≡ Some (t, end)
       → ((f : ℕ) → is_small f ≡ true → Spans text next (ascii " from=" ++ digits f) end → StepIs limit text at (step (record { 0 = b }) (record { 0 = f })) end) → StepIs limit text at t end
   unfolding from_at
   from_sound step t end e k =
-      let p = on_found (field_at (ascii " from=") text next) _ e in
-      let r = field_sound (ascii " from=") text next p.0 p.1 p.2 in
-      let g = p.3 in
-      let a : step (record { 0 = b }) (record { 0 = p.0 }) ≡ t = cc in
-      let c : p.1 ≡ end = cc in
-      rw (← a) (k p.0 r.1 (rw c at r.0))
+      let p = found_first (field_at (ascii " from=") text next) _ e in
+      let r = field_sound (ascii " from=") text next p.0.0 p.0.1 p.1 in
+      let same = same_found p.2 in
+      rw (← same.0) (k p.0.0 r.1 (rw same.1 at r.0))
 
-  start_sound : (t : Step) (end : ℕ) → limit ≤ 32 → start_at limit text next b ≡ Spelled t end
+  start_sound : (t : Step) (end : ℕ) → limit ≤ 32 → start_at limit text next b ≡ Some (t, end)
       → ((v w : ℕ) → is_small v ≡ true → is_world limit w ≡ true → Spans text next ((ascii " value=" ++ digits v) ++ (ascii " world=" ++ world_text w)) end → StepIs limit text at (Start (record { 0 = b }) (record { 0 = v }) w) end)
       → StepIs limit text at t end
   unfolding start_at
   start_sound t end lim e k =
-      let p = on_found (field_at (ascii " value=") text next) _ e in
-      let r = field_sound (ascii " value=") text next p.0 p.1 p.2 in
-      let g₁ = p.3 in
-      split (is_prefix (ascii " world=") (drop p.1 text))
-      (λ h.
-      let q = on_found (world_at limit text (p.1 + 7)) _ (rw h at g₁) in
-      let u = world_sound limit text (p.1 + 7) q.0 q.1 lim q.2 in
-      let g = q.3 in
-      let a : Start (record { 0 = b }) (record { 0 = p.0 }) q.0 ≡ t = cc in
-      let c : q.1 ≡ end = cc in
-      let s : Spans text p.1 (ascii " world=" ++ world_text q.0) q.1 = spans_then (key_spans (ascii " world=") text p.1 h) u.spans in
-      rw (← a) (k p.0 q.0 r.1 u.is_world_lem (rw c at (spans_then r.0 s))))
-      (λ h. none_spelled (rw h at g₁))
+      let p = found_first (field_at (ascii " value=") text next) _ e in
+      let r = field_sound (ascii " value=") text next p.0.0 p.0.1 p.1 in
+      let h = found_first (behind (ascii " world=") text p.0.1) _ p.2 in
+      let q = found_first (world_at limit text h.0) _ h.2 in
+      let u = world_sound limit text h.0 q.0.0 q.0.1 lim q.1 in
+      let same = same_found q.2 in
+      let s : Spans text p.0.1 (ascii " world=" ++ world_text q.0.0) q.0.1 = spans_then (behind_spans (ascii " world=") text p.0.1 h.1) u.spans in
+      rw (← same.0) (k p.0.0 q.0.0 r.1 u.is_world_lem (rw same.1 at (spans_then r.0 s)))
 
-  rest_sound : (v : Verb) (t : Step) (end : ℕ) → limit ≤ 32 → Spans text at (ascii "step=" ++ (key_of v ++ digits b)) next → rest_at limit text next v b ≡ Spelled t end → StepIs limit text at t end
+  rest_sound : (v : Verb) (t : Step) (end : ℕ) → limit ≤ 32 → Spans text at (ascii "step=" ++ (key_of v ++ digits b)) next → rest_at limit text next v b ≡ Some (t, end) → StepIs limit text at t end
   unfolding rest_at key_of step_text is_writable
   rest_sound verb.Start t end lim s e = start_sound t end lim e (λ v w hv hw r. record { spans = spans_then s r; writable = both_true (both_true small hv) hw })
   rest_sound verb.Abstain t end lim s e = here_is (Abstain (record { 0 = b })) t end e (record { spans = s; writable = small })
@@ -204,17 +164,12 @@ module _ (limit : ℕ) (text : List ℕ) (at b next : ℕ) (small : is_small b �
   rest_sound verb.Arrive t end lim s e = from_sound Arrive t end e (λ f hf r. record { spans = spans_then s r; writable = both_true small hf })
   rest_sound verb.Notice t end lim s e = from_sound Notice t end e (λ f hf r. record { spans = spans_then s r; writable = both_true small hf })
 
-on_verb_lem : {s : Step} {end : ℕ} (n : VerbFound) (f : Verb → ℕ → StepFound) → on_verb n f ≡ Spelled s end → (v : Verb) × (next : ℕ) × (n ≡ Known v next) × (f v next ≡ Spelled s end)
-on_verb_lem Unknown f e = none_spelled e
-on_verb_lem (Known v next) f e = (v, next, refl, e)
-
-pub step_sound : (limit : ℕ) (text : List ℕ) (at : ℕ) (s : Step) (end : ℕ) → limit ≤ 32 → step_at limit text at ≡ Spelled s end → StepIs limit text at s end
-unfolding step_at
-step_sound limit text at s end lim got = split (is_prefix (ascii "step=") (drop at text))
-    (λ h.
-    let p = on_verb_lem (verb_at text (at + 5)) _ (rw h at got) in
-    let q = on_found (number_at text p.1) _ p.3 in
-    let r = number_sound text p.1 q.0 q.1 q.2 in
-    rest_sound limit text at q.0 q.1 (lt-ltb q.0 100000 r.small) p.0 s end lim
-    (spans_then (key_spans (ascii "step=") text at h) (spans_then (verb_sound text (at + 5) p.0 p.1 p.2) r.spans)) q.3)
-    (λ h. none_spelled (rw h at got))
+pub step_sound : (limit : ℕ) (text : List ℕ) (at : ℕ) (s : Step) (end : ℕ) → limit ≤ 32 → step_at limit text at ≡ Some (s, end) → StepIs limit text at s end
+unfolding step_at verb_at
+step_sound limit text at s end lim got =
+    let h = found_first (behind (ascii "step=") text at) _ got in
+    let p = found_first (verb_at text h.0) _ h.2 in
+    let q = found_first (number_at text p.0.1) _ p.2 in
+    let r = number_sound text p.0.1 q.0.0 q.0.1 q.1 in
+    rest_sound limit text at q.0.0 q.0.1 (lt-ltb q.0.0 100000 r.small) p.0.0 s end lim
+    (spans_then (behind_spans (ascii "step=") text at h.1) (spans_then (named_sound key_of text h.0 verbs p.1) r.spans)) q.2

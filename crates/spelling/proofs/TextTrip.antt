@@ -1,27 +1,19 @@
--- Texts there and back: how lines fall apart and are joined again. Assumes nothing.
+-- How a text falls into lines, and how lines are joined again. Assumes nothing.
 use Prim.Native.Nat.{ℕ, suc, ◌+◌, ◌-◌, ◌≤◌, ◌<◌}
 use native.Mathlib.Omega.{arith}
 use mathlib.Core.Bool.{true, false≢true}
-use mathlib.Core.List.{List, [], ◌∷◌, ◌++◌, map, append_assoc}
+use mathlib.Core.List.{List, [], ◌∷◌, ◌++◌, map}
 use mathlib.Core.Logic.{⊎_elim}
 use mathlib.Core.Path.{◌≡◌, refl, sym, ap, ◌∙◌}
 use lib.Dec.{eqb}
 use lib.ListN.{length, get_or, take, drop, length-drop, drop_of_length-le}
 use lib.Seq.{drop-drop}
 use borrow.Author.Tests.{eqb-true, lt-ltb, le-ltb}
-use Rattle.common.proofs.Tests.{split, clash}
-use Rattle.kinds.specs.declared.Step.{Step}
-use Rattle.spelling.specs.declared.Said.{Said}
-use Rattle.spelling.specs.declared.Said.TheVariants.{Does}
-use Rattle.spelling.specs.Spelling.{step_text}
+use Rattle.common.proofs.Tests.{split}
 use Rattle.spelling.specs.Lines.{lines_of}
-use Rattle.spelling.specs.Text.{read_text, line_text, write_text}
-use Rattle.spelling.specs.Reading.{said_of}
 use Rattle.spelling.specs.Fields.{line_length, line_at, next_from, next_at}
-use Rattle.spelling.specs.InTurn.{AllWritable}
 use Rattle.spelling.proofs.Places.{le_or_lt, cut}
 use Rattle.spelling.proofs.Lines.{length_within}
-use Rattle.spelling.proofs.LineTrip.{ten_step, line_reads, line_sound}
 use Rattle.spelling.proofs.LineEnds.{no_ten}
 
 -- ---- what stands before a byte 10 and what stands behind it
@@ -34,43 +26,31 @@ first_line (c ∷ front) =
     let r = first_line front in
     split (eqb c 10) (λ e. ([], lines_of (front ++ (10 ∷ [])), rw e refl)) (λ e. (c ∷ r.0, r.1, rw (e, r.2) refl))
 
-lines_apart : (front back : List ℕ) → lines_of (front ++ (10 ∷ back)) ≡ lines_of (front ++ (10 ∷ [])) ++ lines_of back
+pub lines_apart : (front back : List ℕ) → lines_of (front ++ (10 ∷ back)) ≡ lines_of (front ++ (10 ∷ [])) ++ lines_of back
 unfolding lines_of
 lines_apart [] back = refl
 lines_apart (c ∷ front) back = split (eqb c 10)
     (λ e. rw e (ap (λ (z : List (List ℕ)). [] ∷ z) (lines_apart front back)))
     (λ e. let r = first_line front in rw (e, lines_apart front back, r.2) refl)
 
-map-append : {A B : Type 0} (f : A → B) (l m : List A) → map f (l ++ m) ≡ map f l ++ map f m
+pub map-append : {A B : Type 0} (f : A → B) (l m : List A) → map f (l ++ m) ≡ map f l ++ map f m
 map-append f [] m = refl
 map-append f (a ∷ l) m = ap (λ z. f a ∷ z) (map-append f l m)
 
-pub text_apart : (limit : ℕ) (front back : List ℕ) → read_text limit (front ++ (10 ∷ back)) ≡ read_text limit (front ++ (10 ∷ [])) ++ read_text limit back
-unfolding read_text
-text_apart limit front back = ap (map (said_of limit)) (lines_apart front back) ∙ map-append (said_of limit) (lines_of (front ++ (10 ∷ []))) (lines_of back)
-
 -- ---- what is written is read
 
-lines_cut : (w rest : List ℕ) → no_ten w ≡ true → lines_of (w ++ (10 ∷ rest)) ≡ w ∷ lines_of rest
+pub lines_cut : (w rest : List ℕ) → no_ten w ≡ true → lines_of (w ++ (10 ∷ rest)) ≡ w ∷ lines_of rest
 unfolding no_ten lines_of
 lines_cut [] rest h = refl
 lines_cut (c ∷ w) rest h = split (eqb c 10) (λ e. absurd (false≢true (rw e at h))) (λ e. rw (e, lines_cut w rest (rw e at h)) refl)
 
-pub text_reads : (limit : ℕ) (ss : List Step) → limit ≤ 32 → AllWritable limit ss → read_text limit (write_text ss) ≡ map Does ss
-unfolding read_text write_text line_text AllWritable lines_of
-text_reads limit [] lim h = refl
-text_reads limit (s ∷ ss) lim h =
-    let c : lines_of (step_text s ++ (10 ∷ []) ++ write_text ss) ≡ step_text s ∷ lines_of (write_text ss) =
-    ap lines_of (append_assoc (step_text s) (10 ∷ []) (write_text ss)) ∙ lines_cut (step_text s) (write_text ss) (ten_step s) in
-    rw (c, line_reads limit s lim h.0) (ap (λ (z : List Said). Does s ∷ z) (text_reads limit ss lim h.1))
-
 -- ---- what is read is what is written
 
-unlines : List (List ℕ) → List ℕ
+unfoldable pub unlines : List (List ℕ) → List ℕ
 unlines [] = []
 unlines (l ∷ ls) = l ++ (10 ∷ unlines ls)
 
-lines_joined : (front : List ℕ) → unlines (lines_of (front ++ (10 ∷ []))) ≡ front ++ (10 ∷ [])
+pub lines_joined : (front : List ℕ) → unlines (lines_of (front ++ (10 ∷ []))) ≡ front ++ (10 ∷ [])
 unfolding lines_of unlines
 lines_joined [] = refl
 lines_joined (c ∷ front) = split (eqb c 10)
@@ -79,21 +59,6 @@ lines_joined (c ∷ front) = split (eqb c 10)
     let r = first_line front in
     let j : unlines (r.0 ∷ r.1) ≡ front ++ (10 ∷ []) = rw r.2 at (lines_joined front) in
     rw (e, r.2) (ap (λ (z : List ℕ). c ∷ z) j))
-
-lines_sound : (limit : ℕ) (ls : List (List ℕ)) (ss : List Step) → limit ≤ 32 → map (said_of limit) ls ≡ map Does ss → write_text ss ≡ unlines ls
-unfolding write_text line_text unlines
-lines_sound limit [] [] lim e = refl
-lines_sound limit [] (s ∷ ss) lim e = clash (cc)
-lines_sound limit (l ∷ ls) [] lim e = clash (cc)
-lines_sound limit (l ∷ ls) (s ∷ ss) lim e =
-    let a : said_of limit l ≡ Does s = cc in
-    let b : map (said_of limit) ls ≡ map Does ss = cc in
-    let r = line_sound limit l s lim a in
-    append_assoc (step_text s) (10 ∷ []) (write_text ss) ∙ rw (← r.0, lines_sound limit ls ss lim b) refl
-
-pub text_sound : (limit : ℕ) (front : List ℕ) (ss : List Step) → limit ≤ 32 → read_text limit (front ++ (10 ∷ [])) ≡ map Does ss → write_text ss ≡ front ++ (10 ∷ [])
-unfolding read_text
-text_sound limit front ss lim e = lines_sound limit (lines_of (front ++ (10 ∷ []))) ss lim e ∙ lines_joined front
 
 -- ---- line by line
 

@@ -10,12 +10,12 @@ use lib.Dec.{eqb, ltb, lit<, lit≤}
 use lib.ListN.{length, get_or, drop, length-append}
 use lib.Pow.{pow-add, pow_pos}
 use borrow.Author.Tests.{lt-ltb, ltb-true, eq-eqb, ne_eqb, eqb-true}
+use Rattle.std.specs.Prelude.{Some, None}
 use Rattle.common.proofs.Tests.{both, split, clash}
-use Rattle.spelling.specs.declared.Found.{Found}
-use Rattle.spelling.specs.declared.Found.TheVariants.{Got, Nothing}
+use Rattle.spelling.proofs.Keys.{same_found}
 use Rattle.spelling.specs.Numbers.{digits}
 use Rattle.spelling.specs.Spelling.{members, world_text, is_world}
-use Rattle.spelling.specs.Fields.{digit_at, on}
+use Rattle.spelling.specs.Fields.{Found, ◌>>=◌, digit_at}
 use Rattle.spelling.specs.Reading.{bit_of, member_at, members_at, world_at}
 use Rattle.spelling.proofs.Places.{le_or_lt, here, past, past_one, byte_within, Spans, spans_then, spans_byte}
 use Rattle.spelling.proofs.NumberTrip.{number_reads, number_sound}
@@ -48,10 +48,10 @@ pub record Stops (text : List ℕ) (at : ℕ) : Type 0 where
   pub no_comma : get_or text at 0 ≡ 44 → ⊥
 
 -- the reader behind a member
-abbrev after : ℕ → ℕ → List ℕ → ℕ → ℕ → ℕ → Found
-after f limit text at last acc = cond (eqb (get_or text at 0) 44) (members_at f limit text (at + 1) last acc) (Got acc at)
+abbrev after : ℕ → ℕ → List ℕ → ℕ → ℕ → ℕ → Found ℕ
+after f limit text at last acc = cond (eqb (get_or text at 0) 44) (members_at f limit text (at + 1) last acc) (Some (acc, at))
 
-members_after : (f limit : ℕ) (text : List ℕ) (at last acc b next : ℕ) → member_at limit text at last ≡ Got b next → members_at (suc f) limit text at last acc ≡ after f limit text next b (acc + bit_of b)
+members_after : (f limit : ℕ) (text : List ℕ) (at last acc b next : ℕ) → member_at limit text at last ≡ Some (b, next) → members_at (suc f) limit text at last acc ≡ after f limit text next b (acc + bit_of b)
 unfolding members_at
 members_after f limit text at last acc b next e = rw e refl
 
@@ -90,15 +90,15 @@ tail_stops (suc k) b q text at rest e h =
 
 -- one member, with what stands behind it
 member_reads : (b limit : ℕ) (text : List ℕ) (at last : ℕ) (rest : List ℕ) → drop at text ≡ digits b ++ rest → 10 ≤ digit_at text (at + length (digits b)) → last < b → b ≤ limit → limit < 100000
-    → member_at limit text at last ≡ Got b (at + length (digits b))
-member_reads b limit text at last rest e stop lb bl lim = sym (member_got limit text at last refl b _ (number_reads b text at rest (omega arith) e stop) lb bl)
+    → member_at limit text at last ≡ Some (b, at + length (digits b))
+member_reads b limit text at last rest e stop lb bl lim = sym (member_got limit text at last b _ (sym (number_reads b text at rest (omega arith) e stop)) lb bl)
 
 -- from behind a member on
 one_reads : (k b q f limit : ℕ) (text : List ℕ) (at last acc : ℕ) (rest : List ℕ) → ((acc' place : ℕ) → drop place text ≡ members k (b + 1) q (44 ∷ []) ++ rest → Stops text (place + length (members k (b + 1) q (44 ∷ [])))
-    → after f limit text place b acc' ≡ Got (acc' + q * bit_of (b + 1)) (place + length (members k (b + 1) q (44 ∷ []))))
+    → after f limit text place b acc' ≡ Some (acc' + q * bit_of (b + 1), place + length (members k (b + 1) q (44 ∷ []))))
     → drop at text ≡ (digits b ++ members k (b + 1) q (44 ∷ [])) ++ rest → Stops text (at + length (digits b ++ members k (b + 1) q (44 ∷ [])))
     → last < b → b ≤ limit → limit < 100000
-    → members_at (suc f) limit text at last acc ≡ Got (acc + bit_of b + q * bit_of (b + 1)) (at + length (digits b ++ members k (b + 1) q (44 ∷ [])))
+    → members_at (suc f) limit text at last acc ≡ Some (acc + bit_of b + q * bit_of (b + 1), at + length (digits b ++ members k (b + 1) q (44 ∷ [])))
 one_reads k b q f limit text at last acc rest tail e s lb bl lim =
     let M = members k (b + 1) q (44 ∷ []) in
     let p = at + length (digits b) in
@@ -110,7 +110,7 @@ one_reads k b q f limit text at last acc rest tail e s lb bl lim =
     members_after f limit text at last acc b p (member_reads b limit text at last (M ++ rest) e₁ stop lb bl lim) ∙ tail (acc + bit_of b) p e₂ s₂ ∙ rw len refl
 
 tail_reads : (k b q f limit : ℕ) (text : List ℕ) (at last acc : ℕ) (rest : List ℕ) → drop at text ≡ members k b q (44 ∷ []) ++ rest → Stops text (at + length (members k b q (44 ∷ [])))
-    → last < b → b + k ≡ limit + 1 → limit < 100000 → k ≤ f → q < 2 ^ k → after f limit text at last acc ≡ Got (acc + q * bit_of b) (at + length (members k b q (44 ∷ [])))
+    → last < b → b + k ≡ limit + 1 → limit < 100000 → k ≤ f → q < 2 ^ k → after f limit text at last acc ≡ Some (acc + q * bit_of b, at + length (members k b q (44 ∷ [])))
 tail_reads zero b q f limit text at last acc rest e s lb bk lim kf top =
     let z : q ≡ 0 = omega arith in
     let M : members 0 b q (44 ∷ []) ≡ [] = members_nil b q (44 ∷ []) in
@@ -126,7 +126,7 @@ tail_reads (suc k) b q (suc f) limit text at last acc rest e s lb bk lim kf top 
     let one = one_reads k b (q / 2) f limit text (at + 1) last acc rest
     (λ acc' place e'' s''. tail_reads k (b + 1) (q / 2) f limit text place b acc' rest e'' s'' (omega arith) (omega arith) lim (omega arith) (half_below q k top))
     (past_one text at e') (rw (M, len) at s) lb (omega arith) lim in
-    rw (M, len, eq-eqb (get_or text at 0) 44 (here text at e')) (one ∙ ap (λ (v : ℕ). Got v (at + 1 + length D)) (bits_odd q b acc (omega arith) o)))
+    rw (M, len, eq-eqb (get_or text at 0) 44 (here text at e')) (one ∙ ap (λ (v : ℕ). Some (v, at + 1 + length D)) (bits_odd q b acc (omega arith) o)))
     (λ (z : q % 2 ≡ 0).
     let M : members (suc k) b q (44 ∷ []) ≡ members k (b + 1) (q / 2) (44 ∷ []) = members_even k b q (44 ∷ []) z in
     rw (M, ← bits_even q b (omega arith) z) (tail_reads k (b + 1) (q / 2) (suc f) limit text at last acc rest (rw M at e) (rw M at s) (omega arith) (omega arith) lim (omega arith) (half_below q k top)))
@@ -134,7 +134,7 @@ tail_reads (suc k) b q (suc f) limit text at last acc rest e s lb bk lim kf top 
 
 -- from the first member on
 first_reads : (k b q f limit : ℕ) (text : List ℕ) (at last acc : ℕ) (rest : List ℕ) → drop at text ≡ members k b q [] ++ rest → Stops text (at + length (members k b q []))
-    → 0 < q → last < b → b + k ≡ limit + 1 → limit < 100000 → k ≤ f → q < 2 ^ k → members_at f limit text at last acc ≡ Got (acc + q * bit_of b) (at + length (members k b q []))
+    → 0 < q → last < b → b + k ≡ limit + 1 → limit < 100000 → k ≤ f → q < 2 ^ k → members_at f limit text at last acc ≡ Some (acc + q * bit_of b, at + length (members k b q []))
 first_reads zero b q f limit text at last acc rest e s pos lb bk lim kf top = absurd (omega arith)
 first_reads (suc k) b q zero limit text at last acc rest e s pos lb bk lim kf top = absurd (omega arith)
 first_reads (suc k) b q (suc f) limit text at last acc rest e s pos lb bk lim kf top =
@@ -144,13 +144,13 @@ first_reads (suc k) b q (suc f) limit text at last acc rest e s pos lb bk lim kf
     let one = one_reads k b (q / 2) f limit text at last acc rest
     (λ acc' place e'' s''. tail_reads k (b + 1) (q / 2) f limit text place b acc' rest e'' s'' (omega arith) (omega arith) lim (omega arith) (half_below q k top))
     (rw M at e) (rw M at s) lb (omega arith) lim in
-    rw M (one ∙ ap (λ (v : ℕ). Got v (at + length D)) (bits_odd q b acc (omega arith) o)))
+    rw M (one ∙ ap (λ (v : ℕ). Some (v, at + length D)) (bits_odd q b acc (omega arith) o)))
     (λ (z : q % 2 ≡ 0).
     let M : members (suc k) b q [] ≡ members k (b + 1) (q / 2) [] = members_even k b q [] z in
     rw (M, ← bits_even q b (omega arith) z) (first_reads k (b + 1) (q / 2) (suc f) limit text at last acc rest (rw M at e) (rw M at s) (omega arith) (omega arith) (omega arith) lim (omega arith) (half_below q k top)))
     (parity q)
 
-pub world_reads : (limit w : ℕ) (text : List ℕ) (at : ℕ) (rest : List ℕ) → limit ≤ 32 → is_world limit w ≡ true → drop at text ≡ world_text w ++ rest → Stops text (at + length (world_text w)) → world_at limit text at ≡ Got w (at + length (world_text w))
+pub world_reads : (limit w : ℕ) (text : List ℕ) (at : ℕ) (rest : List ℕ) → limit ≤ 32 → is_world limit w ≡ true → drop at text ≡ world_text w ++ rest → Stops text (at + length (world_text w)) → world_at limit text at ≡ Some (w, at + length (world_text w))
 unfolding world_at is_world
 world_reads limit w text at rest lim h e s =
     let b = both (ltb 0 w) (ltb w (2 ^ limit)) h in
@@ -159,7 +159,7 @@ world_reads limit w text at rest lim h e s =
     let W : world_text w ≡ members limit 1 w [] = world_few limit w lim top in
     let r = first_reads limit 1 w limit limit text at 0 0 rest (rw W at e) (rw W at s) pos (lit< tt) (omega arith) (omega arith) (omega arith) top in
     let v : 0 + w * bit_of 1 ≡ w = zero-add (w * 1) ∙ mul-one w in
-    rw W (r ∙ ap (λ (x : ℕ). Got x (at + length (members limit 1 w []))) v)
+    rw W (r ∙ ap (λ (x : ℕ). Some (x, at + length (members limit 1 w []))) v)
 
 -- ---- what is read is what is written
 
@@ -273,33 +273,31 @@ more_sound limit text at last world b n w next m comma r =
       spans = rw t (spans_then (number_sound text at b n m.number).spans (spans_then (spans_byte text n (omega arith) comma) r.spans));
     }
 
-members_sound : (f limit : ℕ) (text : List ℕ) (at last world w next : ℕ) → members_at f limit text at last world ≡ Got w next → Reads limit text at last world w next
+members_sound : (f limit : ℕ) (text : List ℕ) (at last world w next : ℕ) → members_at f limit text at last world ≡ Some (w, next) → Reads limit text at last world w next
 unfolding members_at
 members_sound zero limit text at last world w next got = clash (cc)
 members_sound (suc f) limit text at last world w next got =
     go (member_at limit text at last) refl got (λ b n g. members_sound f limit text (n + 1) b (world + bit_of b) w next g)
   where
-    go : (m : Found) → member_at limit text at last ≡ m
-        → on Nothing m (λ b n. cond (eqb (get_or text n 0) 44) (members_at f limit text (n + 1) b (world + bit_of b)) (Got (world + bit_of b) n)) ≡ Got w next
-        → ((b n : ℕ) → members_at f limit text (n + 1) b (world + bit_of b) ≡ Got w next → Reads limit text (n + 1) b (world + bit_of b) w next)
+    go : (m : Found ℕ) → member_at limit text at last ≡ m
+        → (m >>= (λ (b, n). cond (eqb (get_or text n 0) 44) (members_at f limit text (n + 1) b (world + bit_of b)) (Some (world + bit_of b, n)))) ≡ Some (w, next)
+        → ((b n : ℕ) → members_at f limit text (n + 1) b (world + bit_of b) ≡ Some (w, next) → Reads limit text (n + 1) b (world + bit_of b) w next)
         → Reads limit text at last world w next
-    go Nothing e g ih = clash (cc)
-    go (Got b n) e g ih =
+    go None e g ih = clash (cc)
+    go (Some (b, n)) e g ih =
         let m = member_sound limit text at last b n e in
         split (eqb (get_or text n 0) 44)
         (λ t. more_sound limit text at last world b n w next m (eqb-true (get_or text n 0) 44 t) (ih b n (rw t at g)))
         (λ t.
-        let g' : Got (world + bit_of b) n ≡ Got w next = rw t at g in
-        let a : world + bit_of b ≡ w = cc in
-        let c : n ≡ next = cc in
-        rw (← a, ← c) (last_sound limit text at last world b n m))
+        let same = same_found (rw t at g) in
+        rw (← same.0, ← same.1) (last_sound limit text at last world b n m))
 
 -- w stands at a place, and is one that can be written
 pub record WorldIs (limit : ℕ) (text : List ℕ) (at w next : ℕ) : Type 0 where
   pub spans : Spans text at (world_text w) next
   pub is_world_lem : is_world limit w ≡ true
 
-pub world_sound : (limit : ℕ) (text : List ℕ) (at w next : ℕ) → limit ≤ 32 → world_at limit text at ≡ Got w next → WorldIs limit text at w next
+pub world_sound : (limit : ℕ) (text : List ℕ) (at w next : ℕ) → limit ≤ 32 → world_at limit text at ≡ Some (w, next) → WorldIs limit text at w next
 unfolding world_at is_world
 world_sound limit text at w next lim got =
     let r = members_sound limit limit text at 0 0 w next got in

@@ -1,5 +1,5 @@
--- How the steps of a run text are spelled, and which of them can be written. This file is to be believed: it says what document 01 says
--- under 'Run text' and for refusal 21. A text is the list of its bytes; a world is a number, in which bench i is bit i - 1.
+-- How the steps of a run text are spelled, and which of them can be written. This file is to be believed: it is the format that
+-- docs/RUN-TEXT.md shows, and refusal 21 of docs/REFUSALS.md. A text is the list of its bytes; a world is a number, in which bench i is bit i - 1.
 use Rattle.std.specs.Prelude.{ℕ, zero, suc, ◌+◌, ◌/◌, ◌%◌, ◌^◌, Bool, cond, ◌&&◌, List, [], ◌++◌, ltb, eqb}
 use Rattle.spelling.specs.Numbers.{ascii, digits}
 use Rattle.kinds.specs.declared.Step.{Step}

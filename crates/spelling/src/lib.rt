@@ -3,40 +3,15 @@
 
 #![tactic(auto)]
 
-use kinds::{AnswerNo, BenchNo, SlotNo, Step};
+use kinds::{BenchNo, SlotNo, Step};
 
-// A number and the place behind it, or none.
-#[derive(Clone, Copy)]
-pub enum Found {
-    Got(u32, usize),
-    Nothing,
-}
+// What is found at a place of a text, and the place behind it; None where it does not stand there.
+pub type Found<T> = Option<(T, usize)>;
 
 // ---- run text
 
 // A line, as the reader gives it and the writer takes it: a step.
 pub type Line = Step;
-
-// What a line of a run text says.
-#[derive(Clone, Copy)]
-pub enum Said {
-    Does(Line),
-    Malformed,
-}
-
-// What stands at a place of a text: what a line says, with the place of the next, or the text's end.
-#[derive(Clone, Copy)]
-pub enum Read {
-    Next(Said, usize),
-    End,
-}
-
-// How many bytes were written, or the number of a refusal.
-#[derive(Clone, Copy)]
-pub enum Written {
-    Bytes(usize),
-    Refused(AnswerNo),
-}
 
 // The steps that a line can name.
 #[derive(Clone, Copy)]
@@ -48,20 +23,6 @@ pub enum Verb {
     Turn,
     Arrive,
     Notice,
-}
-
-// A step's name with the key of its bench, and the place behind them, or none.
-#[derive(Clone, Copy)]
-pub enum VerbFound {
-    Known(Verb, usize),
-    Unknown,
-}
-
-// A step and the place behind it, or none.
-#[derive(Clone, Copy)]
-pub enum StepFound {
-    Spelled(Step, usize),
-    Unspelled,
 }
 
 // ---- ledger scripts
@@ -76,20 +37,6 @@ pub enum LedgerStep {
     HandOut(u32),
 }
 
-// What a line of a script says.
-#[derive(Clone, Copy)]
-pub enum LedgerSaid {
-    Does(LedgerStep),
-    Malformed,
-}
-
-// What stands at a place of a script: what a line says, with the place of the next, or the script's end.
-#[derive(Clone, Copy)]
-pub enum LedgerRead {
-    Next(LedgerSaid, usize),
-    End,
-}
-
 // The steps that a line of a script can name.
 #[derive(Clone, Copy)]
 pub enum LedgerVerb {
@@ -98,18 +45,4 @@ pub enum LedgerVerb {
     Close,
     End,
     HandOut,
-}
-
-// A step's name with the key of its first number, and the place behind them, or none.
-#[derive(Clone, Copy)]
-pub enum LedgerVerbFound {
-    Known(LedgerVerb, usize),
-    Unknown,
-}
-
-// A step of a script and the place behind it, or none.
-#[derive(Clone, Copy)]
-pub enum LedgerFound {
-    Spelled(LedgerStep, usize),
-    Unspelled,
 }

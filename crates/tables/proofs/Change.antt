@@ -1,9 +1,11 @@
 -- One bench changes, and its log with it: the run that the tables stand for changes at that bench alone, and the tables stay sound.
 -- All seven steps go through `changes`. Assumes nothing.
+use Rattle.bench.specs.declared.Entry.{Entry}
+use Rattle.bench.specs.Entries.{entry}
 use mathlib.Core.Path.{◌≡◌, refl, sym, ap, ap₂, ◌∙◌, fun_ext, subst}
 use mathlib.Core.Bool.{true, cond}
 use mathlib.Core.List.{List, []}
-use Prim.Native.Nat.{ℕ, zero, suc, ◌+◌, ◌^◌, ◌≤◌, ◌<◌}
+use Prim.Native.Nat.{ℕ, zero, suc, ◌^◌, ◌≤◌, ◌<◌}
 use native.Mathlib.Omega.{arith}
 use lib.Dec.{eqb}
 use lib.ListN.{get_or, length, set, length-set}
@@ -16,8 +18,8 @@ use Rattle.common.proofs.Tests.{split}
 use Rattle.common.proofs.Updates.{put_ind, put_same, put_other, put_self}
 use Rattle.bench.specs.declared.Bench.{Bench}
 use Rattle.common.specs.Places.{has}
-use Rattle.kinds.specs.Sizes.{places, depth}
-use Rattle.tables.specs.Rows.{row_of, rows, logs}
+use Rattle.kinds.specs.Sizes.{depth}
+use Rattle.tables.specs.Rows.{rows, logs}
 use Rattle.tables.specs.Steps.{Act, refused, acted, stored}
 use Rattle.tables.specs.Runs.{line_of, taken_by, bench_of, run_by, run_of}
 use Rattle.tables.specs.Sound.{Fit, Ok, Sound}
@@ -42,8 +44,8 @@ pub record Grows (b b' : Bench) : Type 0 where
   pub still : eqb b.silent 1 ≡ true → (eqb b'.silent 1 ≡ true) × (b.sent ≡ b'.sent)
 
 -- what bench k of benches B with logs L can become, with its log: every step shows this of its bench
-pub record Becomes (N : ℕ) (B : ℕ → Bench) (L : ℕ → List ℕ) (k : ℕ) (b : Bench) (log : List ℕ) : Type 0 where
-  pub size : length log ≡ depth + depth
+pub record Becomes (N : ℕ) (B : ℕ → Bench) (L : ℕ → List Entry) (k : ℕ) (b : Bench) (log : List Entry) : Type 0 where
+  pub size : length log ≡ depth
   pub keeps : KeepsRounds (L k) log (B k).sent
   pub grows : Grows (B k) b
   pub fit : Fit N b
@@ -51,10 +53,10 @@ pub record Becomes (N : ℕ) (B : ℕ → Bench) (L : ℕ → List ℕ) (k : ℕ
   pub own_out : has b.outs k ≡ eqb b.silent 1
   pub line : (j : ℕ) → (j ≡ k → ⊥) → get_or b.taken j 0 ≤ (B j).sent
   pub end : (j : ℕ) → (j ≡ k → ⊥) → has b.outs j ≡ true → (eqb (B j).silent 1 ≡ true) × (get_or b.taken j 0 ≡ (B j).sent)
-  pub worlds : (i : ℕ) → i < b.sent → get_or log (i + depth) 0 < 2 ^ N
+  pub worlds : (i : ℕ) → i < b.sent → (entry log i).world < 2 ^ N
 
 module _ (N : ℕ) where
-  module _ (B : ℕ → Bench) (L : ℕ → List ℕ) (ok : Ok N B L) (k : ℕ) (b : Bench) (log : List ℕ) (m : Becomes N B L k b log) where
+  module _ (B : ℕ → Bench) (L : ℕ → List Entry) (ok : Ok N B L) (k : ℕ) (b : Bench) (log : List Entry) (m : Becomes N B L k b log) where
     -- ---- the run
 
     -- what others have taken of the log stays
@@ -66,7 +68,7 @@ module _ (N : ℕ) where
         go zero = refl
         go (suc j) =
             let n = get_or (B i).taken j 0 in let o = has (B i).outs j in
-            put_ind (λ (y : List ℕ). cond (eqb j i) [] (line_of y n o) ≡ cond (eqb j i) [] (line_of (L j) n o)) L k log j
+            put_ind (λ (y : List Entry). cond (eqb j i) [] (line_of y n o) ≡ cond (eqb j i) [] (line_of (L j) n o)) L k log j
             (λ e. rw (line_kept (L k) log (B k).sent m.keeps n (rw (← e) (ok.line i j)) o, e) refl)
             (λ e. refl)
 
@@ -112,12 +114,12 @@ module _ (N : ℕ) where
           (λ e. put_ind (λ (y : Bench). End (B i) j y) B k b j
           (λ e' o. let p = ok.end i j o in let s = m.grows.still (rw e' at p.0) in (s.0, p.1 ∙ ap (λ (x : ℕ). (B x).sent) e' ∙ s.1))
           (λ e'. ok.end i j));
-      worlds = λ i. put_ind (λ (y : Bench). (q : ℕ) → q < y.sent → get_or (put L k log i) (q + depth) 0 < 2 ^ N) B k b i
+      worlds = λ i. put_ind (λ (y : Bench). (q : ℕ) → q < y.sent → (entry (put L k log i) q).world < 2 ^ N) B k b i
           (λ e q h. rw (e, put_same) (m.worlds q h))
           (λ e q h. rw (put_other L k log i e) (ok.worlds i q h));
     }
 
-  module _ (t l : List (List ℕ)) (s : Sound N t l) where
+  module _ (t : List Bench) (l : List (List Entry)) (s : Sound N t l) where
     -- nothing changes
     pub refused_links : (n : ℕ) → Linked N (refused n t l) (refuse n (run_of t l))
     unfolding refuse
@@ -125,43 +127,43 @@ module _ (N : ℕ) where
 
     module _ (k : ℕ) (h : k < N) (b : Bench) where
       -- bench k is now b with this log, and stands for x
-      pub changes : (log : List ℕ) → Becomes N (rows places t) (logs l) k b log → (x : published.Bench) → bench_of (put (logs l) k log) k b ≡ x
+      pub changes : (log : List Entry) → Becomes N (rows t) (logs l) k b log → (x : published.Bench) → bench_of (put (logs l) k log) k b ≡ x
           → Linked N (acted (stored t (set l k log) k b)) (done (put (run_of t l) (suc k) x))
       unfolding done run_of
       changes log m x e steps led =
-          let p = rows_set places t k b (omega (arith, s.benches, s.fits)) m.fit.size in
+          let p = rows_set t k b (omega (arith, s.benches, s.fits)) in
           let q = logs_set l k log (omega (arith, s.books, s.fits)) in
-          let run = sym (ap₂ run_by p q ∙ run_change (rows places t) (logs l) s.ok k b log m ∙ ap (put (run_by (rows places t) (logs l)) (suc k)) e) in
+          let run = sym (ap₂ run_by p q ∙ run_change (rows t) (logs l) s.ok k b log m ∙ ap (put (run_by (rows t) (logs l)) (suc k)) e) in
           record {
             number = refl;
             run = run;
             sound = record {
               fits = s.fits;
-              benches = length-set t k (row_of places b) ∙ s.benches;
+              benches = length-set t k b ∙ s.benches;
               books = length-set l k log ∙ s.books;
               logs = λ i hi. split (eqb i k)
                   (λ c. rw (eqb-true i k c, get_or-set_same l k log [] (omega (arith, s.books, s.fits))) m.size)
                   (λ c. rw (get_or-set_other l k i log [] (eqb-false i k c)) (s.logs i hi));
               ok = subst (λ (P : ℕ → Bench). Ok N P (logs (set l k log))) (sym p)
-                  (subst (λ (Q : ℕ → List ℕ). Ok N (put (rows places t) k b) Q) (sym q) (ok_change (rows places t) (logs l) s.ok k b log m));
+                  (subst (λ (Q : ℕ → List Entry). Ok N (put (rows t) k b) Q) (sym q) (ok_change (rows t) (logs l) s.ok k b log m));
               steps = steps;
               led = led ∙ run;
             };
           }
 
       -- the same where the log stays
-      pub remains : Becomes N (rows places t) (logs l) k b (logs l k) → (x : published.Bench) → bench_of (logs l) k b ≡ x
+      pub remains : Becomes N (rows t) (logs l) k b (logs l k) → (x : published.Bench) → bench_of (logs l) k b ≡ x
           → Linked N (acted (stored t l k b)) (done (put (run_of t l) (suc k) x))
       remains m x e =
-          subst (λ (r : List (List ℕ)). Linked N (acted (stored t r k b)) (done (put (run_of t l) (suc k) x))) (set-get_or l k [])
-          (changes (logs l k) m x (ap (λ (Q : ℕ → List ℕ). bench_of Q k b) (put_self (logs l) k) ∙ e))
+          subst (λ (r : List (List Entry)). Linked N (acted (stored t r k b)) (done (put (run_of t l) (suc k) x))) (set-get_or l k [])
+          (changes (logs l k) m x (ap (λ (Q : ℕ → List Entry). bench_of Q k b) (put_self (logs l) k) ∙ e))
 
       -- b has sent and taken what bench k has
-      pub idle : Fit N b → b.sent ≡ (rows places t k).sent → b.silent ≡ (rows places t k).silent → b.outs ≡ (rows places t k).outs → b.taken ≡ (rows places t k).taken
-          → Becomes N (rows places t) (logs l) k b (logs l k)
+      pub idle : Fit N b → b.sent ≡ (rows t k).sent → b.silent ≡ (rows t k).silent → b.outs ≡ (rows t k).outs → b.taken ≡ (rows t k).taken
+          → Becomes N (rows t) (logs l) k b (logs l k)
       idle fit e₁ e₂ e₃ e₄ = record {
         size = s.logs k (omega (arith, s.fits));
-        keeps = keeps_all (logs l k) (rows places t k).sent;
+        keeps = keeps_all (logs l k) (rows t k).sent;
         grows = record { more = omega arith; still = λ g. (rw e₂ g, sym e₁) };
         fit = fit;
         own = rw (e₄, e₁) (s.ok.own k);

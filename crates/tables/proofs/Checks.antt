@@ -1,5 +1,7 @@
 -- A check on the tables beside the published check of the same number, and the checks of bench numbers that every step begins with.
--- A step's proof is then its list of checks, in document 01's order. Assumes nothing.
+-- A step's proof is then its list of checks, in their order. Assumes nothing.
+use Rattle.bench.specs.declared.Entry.{Entry}
+use Rattle.bench.specs.declared.Bench.{Bench}
 use mathlib.Core.Path.{◌≡◌, refl}
 use mathlib.Core.Bool.{Bool, true, false, cond, not, ◌&&◌}
 use mathlib.Core.List.{List, [], ◌∷◌}
@@ -28,7 +30,7 @@ not_above a b = split (ltb a b)
 place : (N b : ℕ) → is_bench N b ≡ true → (suc (b - 1) ≡ b) × (b - 1 < N)
 place N b e = let h = bench_in N b e in (omega arith, omega arith)
 
-module _ (N : ℕ) (t l : List (List ℕ)) (s : Sound N t l) where
+module _ (N : ℕ) (t : List Bench) (l : List (List Entry)) (s : Sound N t l) where
   abbrev run : Run
   run = run_of t l
 

@@ -1,4 +1,5 @@
 -- Steps that send and take nothing: a bench leaves quietly, fails, or notices. Assumes nothing.
+use Rattle.bench.specs.declared.Entry.{Entry}
 use mathlib.Core.Path.{◌≡◌, refl, sym, fun_ext}
 use mathlib.Core.Bool.{Bool, true}
 use mathlib.Core.List.{List}
@@ -12,7 +13,6 @@ use Rattle.common.proofs.Updates.{put_ind, put_other}
 use Rattle.bench.specs.declared.Bench.{Bench}
 use Rattle.common.specs.Places.{has}
 use Rattle.bench.specs.Changes.{notice_of, in_state}
-use Rattle.kinds.specs.Sizes.{places}
 use Rattle.tables.specs.Rows.{rows, logs}
 use Rattle.tables.specs.Steps.{acted, stored}
 use Rattle.tables.specs.Runs.{state_of, taken_by, noticed_by, bench_of, run_by, run_of}
@@ -48,9 +48,9 @@ module _ (N : ℕ) where
           (λ e. let p : i ≡ j = omega arith in rw p (joined_same a j))
           (λ e. joined_other a j i (λ p. e (omega arith)))
 
-  module _ (t l : List (List ℕ)) (s : Sound N t l) (k : ℕ) (h : k < N) where
+  module _ (t : List Bench) (l : List (List Entry)) (s : Sound N t l) (k : ℕ) (h : k < N) where
     abbrev b : Bench
-    b = rows places t k
+    b = rows t k
 
     taken_same : (b' : Bench) → b'.taken ≡ b.taken → b'.outs ≡ b.outs → taken_by (logs l) k b' ≡ taken_by (logs l) k b
     unfolding taken_by

@@ -1,11 +1,13 @@
 -- A bench sends OUT, or the message of its next round: on the tables as in the published run. Assumes nothing.
+use Rattle.bench.specs.declared.Entry.{Entry}
+use Rattle.bench.specs.Entries.{no_entry, entry}
 use mathlib.Core.Path.{◌≡◌, refl, sym, ◌∙◌, fun_ext}
 use mathlib.Core.Bool.{false}
 use mathlib.Core.List.{List, [], ◌∷◌, ◌++◌, append-nil}
-use Prim.Native.Nat.{ℕ, zero, suc, ◌+◌, ◌-◌, ◌^◌, ◌≤◌, ◌<◌}
+use Prim.Native.Nat.{ℕ, zero, suc, ◌-◌, ◌^◌, ◌≤◌, ◌<◌}
 use native.Mathlib.Omega.{arith}
 use lib.Dec.{eqb}
-use lib.ListN.{get_or, length, set, length-set}
+use lib.ListN.{length, set, length-set}
 use lib.Seq.{get_or-set_same, get_or-set_other}
 use borrow.Author.Tests.{eqb-true, eqb-false}
 use Rattle.published.specs.Rounds as published
@@ -19,39 +21,35 @@ use Rattle.bench.specs.Changes.{taken_of, out_of, take_of, in_round, sent_to, se
 use Rattle.kinds.specs.Sizes.{places, depth}
 use Rattle.tables.specs.Rows.{rows, logs}
 use Rattle.tables.specs.Lines.{message}
-use Rattle.tables.specs.Steps.{acted, stored, put_at, sent_of}
+use Rattle.tables.specs.Steps.{acted, stored, sent_of}
 use Rattle.tables.specs.Runs.{messages_to, line_of, state_of, taken_by, decision_of, bench_of, run_by, run_of}
 use Rattle.tables.specs.Sound.{Sound}
 use Rattle.tables.specs.Local.{KeepsRounds}
 use Rattle.common.proofs.Sets.{joined_same, joined_other}
-use Rattle.tables.proofs.Rows.{put_word}
 use Rattle.tables.proofs.Lines.{keeps_all, rounds_kept}
 use Rattle.tables.proofs.Change.{Linked, bench_path, Becomes, changes, remains}
 
 -- ---- a log with one round more
 
-module _ (log : List ℕ) (q v w : ℕ) (size : length log ≡ depth + depth) (h : q < depth) where
-  abbrev longer : List ℕ
-  longer = set (set log q v) (q + depth) w
+module _ (log : List Entry) (q v w : ℕ) (size : length log ≡ depth) (h : q < depth) where
+  abbrev said : Entry
+  said = record { value = record { 0 = v }; world = w }
 
-  longer_size : length longer ≡ depth + depth
-  longer_size = length-set (set log q v) (q + depth) w ∙ length-set log q v ∙ size
+  abbrev longer : List Entry
+  longer = set log q said
+
+  longer_size : length longer ≡ depth
+  longer_size = length-set log q said ∙ size
 
   longer_keeps : KeepsRounds log longer q
-  longer_keeps i l = (
-    get_or-set_other (set log q v) (q + depth) i w 0 (λ e. absurd (omega arith)) ∙ get_or-set_other log q i v 0 (λ e. absurd (omega arith)),
-    get_or-set_other (set log q v) (q + depth) (i + depth) w 0 (λ e. absurd (omega arith)) ∙ get_or-set_other log q (i + depth) v 0 (λ e. absurd (omega arith)),
-  )
+  longer_keeps i l = get_or-set_other log q i said no_entry (λ e. absurd (omega arith))
 
-  longer_value : get_or longer q 0 ≡ v
-  longer_value = get_or-set_other (set log q v) (q + depth) q w 0 (λ e. absurd (omega arith)) ∙ get_or-set_same log q v 0 (omega (arith, size))
-
-  longer_world : get_or longer (q + depth) 0 ≡ w
-  longer_world = get_or-set_same (set log q v) (q + depth) w 0 (omega (arith, size, length-set log q v))
+  longer_said : entry longer q ≡ said
+  longer_said = get_or-set_same log q said no_entry (omega (arith, size))
 
   longer_rounds : messages_to longer (suc q) ≡ messages_to log q ++ (published.Round (suc q) v w ∷ [])
   unfolding messages_to
-  longer_rounds = rw (rounds_kept log longer q longer_keeps q (omega arith), longer_value, longer_world) refl
+  longer_rounds = rw (rounds_kept log longer q longer_keeps q (omega arith), longer_said) refl
 
 -- ---- what a bench that sends OUT or a round message is
 
@@ -63,9 +61,9 @@ with_state st chose b = record { state = st; round = b.round; value = b.value; w
 unfoldable pub with_decision : published.State → published.Decision → published.Bench → published.Bench
 with_decision st d x = record { state = st; round = x.round; value = x.value; world = x.world; sent = x.sent; taken = x.taken; noticed = x.noticed; decision = d }
 
-module _ (N : ℕ) (t l : List (List ℕ)) (s : Sound N t l) (k : ℕ) (h : k < N) where
+module _ (N : ℕ) (t : List Bench) (l : List (List Entry)) (s : Sound N t l) (k : ℕ) (h : k < N) where
   abbrev b : Bench
-  b = rows places t k
+  b = rows t k
 
   abbrev x : published.Bench
   x = run_of t l (suc k)
@@ -83,7 +81,7 @@ module _ (N : ℕ) (t l : List (List ℕ)) (s : Sound N t l) (k : ℕ) (h : k < 
     abbrev parted : Bench
     parted = sent_out (take_of (with_state st chose b) k Out)
 
-    parted_becomes : Becomes N (rows places t) (logs l) k parted (logs l k)
+    parted_becomes : Becomes N (rows t) (logs l) k parted (logs l k)
     unfolding sent_out take_of out_of with_state
     parted_becomes = record {
       size = s.logs k here;
@@ -122,14 +120,14 @@ module _ (N : ℕ) (t l : List (List ℕ)) (s : Sound N t l) (k : ℕ) (h : k < 
     abbrev entered : Bench
     entered = sent_to (suc q) (taken_of (in_round (suc q) (record { 0 = v }) w b) k (suc q))
 
-    abbrev log : List ℕ
-    log = set (set (get_or l k []) q v) (q + depth) w
+    abbrev log : List Entry
+    log = longer (logs l k) q v w (s.logs k here) room
 
-    entered_becomes : Becomes N (rows places t) (logs l) k entered log
+    entered_becomes : Becomes N (rows t) (logs l) k entered log
     unfolding sent_to taken_of in_round
     entered_becomes = record {
-      size = longer_size (get_or l k []) q v w (s.logs k here) room;
-      keeps = longer_keeps (get_or l k []) q v w (s.logs k here) room;
+      size = longer_size (logs l k) q v w (s.logs k here) room;
+      keeps = longer_keeps (logs l k) q v w (s.logs k here) room;
       grows = record { more = omega arith; still = λ g. let e = ((s.ok.fit k).live live).0 in clash (cc) };
       fit = record {
         size = length-set b.taken k (suc q) ∙ size;
@@ -144,8 +142,8 @@ module _ (N : ℕ) (t l : List (List ℕ)) (s : Sound N t l) (k : ℕ) (h : k < 
       line = λ j n. rw (get_or-set_other b.taken k j (suc q) 0 n) (s.ok.line k j);
       end = λ j n o. let e = s.ok.end k j o in (e.0, get_or-set_other b.taken k j (suc q) 0 n ∙ e.1);
       worlds = λ i hi. split (eqb i q)
-          (λ c. rw (eqb-true i q c, longer_world (get_or l k []) q v w (s.logs k here) room) hw)
-          (λ c. let c' = eqb-false i q c in rw (longer_keeps (get_or l k []) q v w (s.logs k here) room i (omega arith)).1 (s.ok.worlds k i (omega arith)));
+          (λ c. rw (eqb-true i q c, longer_said (logs l k) q v w (s.logs k here) room) hw)
+          (λ c. let c' = eqb-false i q c in rw (longer_keeps (logs l k) q v w (s.logs k here) room i (omega arith)) (s.ok.worlds k i (omega arith)));
     }
 
     taken_same : taken_by (put (logs l) k log) k entered ≡ taken_by (logs l) k b
@@ -161,8 +159,8 @@ module _ (N : ℕ) (t l : List (List ℕ)) (s : Sound N t l) (k : ℕ) (h : k < 
     entered_is : bench_of (put (logs l) k log) k entered ≡ entering (suc q) v w (bench_of (logs l) k b)
     unfolding bench_of sent_to taken_of in_round entering sending published.in_round state_of line_of decision_of
     entered_is = bench_path _ _ refl refl refl refl
-        (rw (put_same (logs l) k log, ((s.ok.fit k).live live).0, append-nil (messages_to log (suc q)), append-nil (messages_to (get_or l k []) q))
-        (longer_rounds (get_or l k []) q v w (s.logs k here) room))
+        (rw (put_same (logs l) k log, ((s.ok.fit k).live live).0, append-nil (messages_to log (suc q)), append-nil (messages_to (logs l k) q))
+        (longer_rounds (logs l k) q v w (s.logs k here) room))
         taken_same refl (rw ((s.ok.fit k).live live).1 refl)
 
     enters : Linked N (acted (stored t (set l k log) k entered)) (done (put (run_of t l) (suc k) (entering (suc q) v w x)))
@@ -174,4 +172,4 @@ module _ (N : ℕ) (t l : List (List ℕ)) (s : Sound N t l) (k : ℕ) (h : k < 
     unfolding sent_of take_of
     sends_round r e =
         let p : suc q - 1 ≡ q = omega arith in
-        rw (e, p, put_word l k (omega (arith, s.books, here)) (put_at l k q v) (set (get_or l k []) q v) refl (q + depth) w) enters
+        rw (e, p) enters

@@ -1,4 +1,6 @@
--- Each of the seven steps on sound tables is the published step: its checks in document 01's order, then its change. Assumes nothing.
+-- Each of the seven steps on sound tables is the published step: its checks in their order, then its change. Assumes nothing.
+use Rattle.bench.specs.declared.Entry.{Entry}
+use Rattle.bench.specs.declared.Bench.{Bench}
 use mathlib.Core.Path.{◌≡◌, refl, ap, ◌∙◌}
 use mathlib.Core.Bool.{false, cond, not, ◌&&◌, ◌||◌}
 use mathlib.Core.List.{List, [], ◌∷◌, ◌++◌}
@@ -15,7 +17,6 @@ use Rattle.common.proofs.Tests.{both, split}
 use Rattle.kinds.specs.declared.Message.TheVariants.{Out}
 use Rattle.common.specs.Places.{has}
 use Rattle.bench.specs.Changes.{in_state}
-use Rattle.kinds.specs.Sizes.{places}
 use Rattle.tables.specs.Rows.{rows, logs}
 use Rattle.tables.specs.Steps.{acted, stored, sent_of, lacks_one, lacked_by_one, start_at, abstain_at, leave_at, fail_at, turn_at, arrive_at, notice_at, table_step}
 use Rattle.tables.specs.Runs.{state_of, noticed_by, bench_of, run_by, run_of}
@@ -32,29 +33,29 @@ use Rattle.tables.proofs.Turning.{turn_links}
 use Rattle.tables.proofs.Starting.{lacks_is, lacked_is}
 use Rattle.tables.proofs.Checks.{not_above, asks, bars, all_hold_lem, behind, at_bench_lem, at_benches_lem}
 
-module _ (N : ℕ) (t l : List (List ℕ)) (s : Sound N t l) where
+module _ (N : ℕ) (t : List Bench) (l : List (List Entry)) (s : Sound N t l) where
   abbrev run : Run
   run = run_of t l
 
   -- ---- the tests of states
 
-  state_is : (k : ℕ) → (run (suc k)).state ≡ state_of (rows places t k).state
+  state_is : (k : ℕ) → (run (suc k)).state ≡ state_of (rows t k).state
   unfolding run_of run_by bench_of
   state_is k = refl
 
-  fresh_test : (k : ℕ) → is_fresh (run (suc k)).state ≡ eqb (rows places t k).state 0
-  fresh_test k = ap is_fresh (state_is k) ∙ fresh_is (rows places t k).state
+  fresh_test : (k : ℕ) → is_fresh (run (suc k)).state ≡ eqb (rows t k).state 0
+  fresh_test k = ap is_fresh (state_is k) ∙ fresh_is (rows t k).state
 
-  live_test : (k : ℕ) → (is_fresh (run (suc k)).state || is_running (run (suc k)).state) ≡ not (ltb 1 (rows places t k).state)
-  live_test k = ap (λ (x : State). is_fresh x || is_running x) (state_is k) ∙ live_is (rows places t k).state
+  live_test : (k : ℕ) → (is_fresh (run (suc k)).state || is_running (run (suc k)).state) ≡ not (ltb 1 (rows t k).state)
+  live_test k = ap (λ (x : State). is_fresh x || is_running x) (state_is k) ∙ live_is (rows t k).state
 
-  gone_test : (k : ℕ) → not (is_gone (run (suc k)).state) ≡ not (ltb 3 (rows places t k).state)
-  gone_test k = ap (λ (x : State). not (is_gone x)) (state_is k) ∙ ap not (gone_is (rows places t k).state)
+  gone_test : (k : ℕ) → not (is_gone (run (suc k)).state) ≡ not (ltb 3 (rows t k).state)
+  gone_test k = ap (λ (x : State). not (is_gone x)) (state_is k) ∙ ap not (gone_is (rows t k).state)
 
-  failed_test : (k : ℕ) → is_failed (run (suc k)).state ≡ ltb 4 (rows places t k).state
-  failed_test k = ap is_failed (state_is k) ∙ failed_is (rows places t k).state
+  failed_test : (k : ℕ) → is_failed (run (suc k)).state ≡ ltb 4 (rows t k).state
+  failed_test k = ap is_failed (state_is k) ∙ failed_is (rows t k).state
 
-  noticed_test : (k j : ℕ) → not ((run (suc k)).noticed (suc j)) ≡ not (has (rows places t k).noticed j)
+  noticed_test : (k j : ℕ) → not ((run (suc k)).noticed (suc j)) ≡ not (has (rows t k).noticed j)
   unfolding run_of run_by bench_of noticed_by
   noticed_test k j = refl
 
@@ -66,52 +67,52 @@ module _ (N : ℕ) (t l : List (List ℕ)) (s : Sound N t l) where
   start_links : (v w k : ℕ) → k < N → Linked N (start_at N t l v w k) (behind N t l s 1 (start (suc k) v w))
   unfolding start_at checks after
   start_links v w k h =
-      asks N t l s 3 (eqb (rows places t k).state 0) _ _ _ _ (fresh_test k) λ e₃.
+      asks N t l s 3 (eqb (rows t k).state 0) _ _ _ _ (fresh_test k) λ e₃.
       bars N t l s 4 (ltb 65535 v) _ _ _ _ (not_above 65535 v) λ e₄.
       asks N t l s 5 (ltb w (2 ^ N) && has w k) _ _ _ _ (world_test w k) λ e₅.
       bars N t l s 6 (lacks_one N t w) _ _ _ _ (lacks_is N t l s w) λ e₆.
       bars N t l s 7 (lacked_by_one N t l k) _ _ _ _ (lacked_is N t l k) λ e₇.
-      let new = eqb-true (rows places t k).state 0 e₃ in let none = (s.ok.fit k).fresh new in
+      let new = eqb-true (rows t k).state 0 e₃ in let none = (s.ok.fit k).fresh new in
       all_hold_lem N t l s _ _
       (sends_round N t l s k h v w (ltb-true w (2 ^ N) (both (ltb w (2 ^ N)) (has w k) e₅).0) (omega arith) (omega arith) 1 (omega arith))
 
   -- ---- abstain, leave, fail: 3
 
-  parts : (k : ℕ) → k < N → (st : ℕ) → eqb (rows places t k).silent 1 ≡ false → 3 ≤ st → (st ≡ 3 → (rows places t k).sent ≡ 0)
-      → Linked N (acted (sent_of t l k (in_state st (rows places t k)) Out)) (done (put run (suc k) (parting (state_of st) (run (suc k)))))
+  parts : (k : ℕ) → k < N → (st : ℕ) → eqb (rows t k).silent 1 ≡ false → 3 ≤ st → (st ≡ 3 → (rows t k).sent ≡ 0)
+      → Linked N (acted (sent_of t l k (in_state st (rows t k)) Out)) (done (put run (suc k) (parting (state_of st) (run (suc k)))))
   unfolding in_state with_state with_decision parting published.in_state run_of run_by bench_of
   parts k h st quiet h₃ abstained =
-      sends_out N t l s k h st (rows places t k).chose quiet (omega arith) (λ p. absurd (omega arith)) abstained
+      sends_out N t l s k h st (rows t k).chose quiet (omega arith) (λ p. absurd (omega arith)) abstained
 
   abstain_links : (k : ℕ) → k < N → Linked N (abstain_at t l k) (behind N t l s 1 (abstain (suc k)))
   unfolding abstain_at checks after state_of
   abstain_links k h =
-      asks N t l s 3 (eqb (rows places t k).state 0) _ _ _ _ (fresh_test k) λ e₃.
-      let new = eqb-true (rows places t k).state 0 e₃ in
+      asks N t l s 3 (eqb (rows t k).state 0) _ _ _ _ (fresh_test k) λ e₃.
+      let new = eqb-true (rows t k).state 0 e₃ in
       all_hold_lem N t l s _ _ (parts k h 3 ((s.ok.fit k).live (omega arith)).0 (omega arith) (λ p. (s.ok.fit k).fresh new))
 
-  out_is : (k : ℕ) → has_out (run (suc k)).sent ≡ eqb (rows places t k).silent 1
+  out_is : (k : ℕ) → has_out (run (suc k)).sent ≡ eqb (rows t k).silent 1
   unfolding run_of run_by bench_of
-  out_is k = line_out (logs l k) (rows places t k).sent (eqb (rows places t k).silent 1)
+  out_is k = line_out (logs l k) (rows t k).sent (eqb (rows t k).silent 1)
 
   -- OUT is sent if it has not been yet
-  leaves : (k : ℕ) → k < N → Linked N (acted (cond (eqb (rows places t k).silent 1) (stored t l k (in_state 4 (rows places t k))) (sent_of t l k (in_state 4 (rows places t k)) Out)))
+  leaves : (k : ℕ) → k < N → Linked N (acted (cond (eqb (rows t k).silent 1) (stored t l k (in_state 4 (rows t k))) (sent_of t l k (in_state 4 (rows t k)) Out)))
       (done (put run (suc k) (leaving (run (suc k)))))
   unfolding leaving state_of
-  leaves k h = split (eqb (rows places t k).silent 1)
+  leaves k h = split (eqb (rows t k).silent 1)
       (λ o. rw (o, out_is k ∙ o) (goes_quietly N t l s k h 4 (omega arith)))
       (λ o. rw (o, out_is k ∙ o) (parts k h 4 o (omega arith) (λ p. absurd (omega arith))))
 
   leave_links : (k : ℕ) → k < N → Linked N (leave_at t l k) (behind N t l s 1 (leave (suc k)))
   unfolding leave_at checks after
   leave_links k h =
-      bars N t l s 3 (ltb 3 (rows places t k).state) _ _ _ _ (gone_test k) λ e₃.
+      bars N t l s 3 (ltb 3 (rows t k).state) _ _ _ _ (gone_test k) λ e₃.
       all_hold_lem N t l s _ _ (leaves k h)
 
   fail_links : (k : ℕ) → k < N → Linked N (fail_at t l k) (behind N t l s 1 (fail (suc k)))
   unfolding fail_at checks after state_of
   fail_links k h =
-      bars N t l s 3 (ltb 3 (rows places t k).state) _ _ _ _ (gone_test k) λ e₃.
+      bars N t l s 3 (ltb 3 (rows t k).state) _ _ _ _ (gone_test k) λ e₃.
       all_hold_lem N t l s _ _ (goes_quietly N t l s k h 5 (omega arith))
 
   -- ---- arrive: 3, 9, 8
@@ -119,8 +120,8 @@ module _ (N : ℕ) (t l : List (List ℕ)) (s : Sound N t l) where
   arrive_links : (k j : ℕ) → k < N → j < N → (j ≡ k → ⊥) → Linked N (arrive_at t l k j) (behind N t l s 2 (arrive (suc k) (suc j)))
   unfolding arrive_at checks after
   arrive_links k j hk hj ne =
-      bars N t l s 3 (ltb 1 (rows places t k).state) _ _ _ _ (live_test k) λ e₃.
-      bars N t l s 9 (has (rows places t k).noticed j) _ _ _ _ (noticed_test k j) λ e₉.
+      bars N t l s 3 (ltb 1 (rows t k).state) _ _ _ _ (live_test k) λ e₃.
+      bars N t l s 9 (has (rows t k).noticed j) _ _ _ _ (noticed_test k j) λ e₉.
       takes_next N t l s k j hk hj ne
 
   -- ---- notice: 3, 10, 9
@@ -128,9 +129,9 @@ module _ (N : ℕ) (t l : List (List ℕ)) (s : Sound N t l) where
   notice_links : (k j : ℕ) → k < N → j < N → (j ≡ k → ⊥) → Linked N (notice_at t l k j) (behind N t l s 2 (notice (suc k) (suc j)))
   unfolding notice_at checks after
   notice_links k j hk hj ne =
-      bars N t l s 3 (ltb 1 (rows places t k).state) _ _ _ _ (live_test k) λ e₃.
-      asks N t l s 10 (ltb 4 (rows places t j).state) _ _ _ _ (failed_test j) λ e₁₀.
-      bars N t l s 9 (has (rows places t k).noticed j) _ _ _ _ (noticed_test k j) λ e₉.
+      bars N t l s 3 (ltb 1 (rows t k).state) _ _ _ _ (live_test k) λ e₃.
+      asks N t l s 10 (ltb 4 (rows t j).state) _ _ _ _ (failed_test j) λ e₁₀.
+      bars N t l s 9 (has (rows t k).noticed j) _ _ _ _ (noticed_test k j) λ e₉.
       all_hold_lem N t l s _ _ (notices N t l s k hk j)
 
   -- ---- all seven, behind checks 1 and 2

@@ -1,4 +1,5 @@
 -- A bench takes the next message of a line: what waits by the counts and the log is what waits on the published line. Assumes nothing.
+use Rattle.bench.specs.declared.Entry.{Entry}
 use mathlib.Core.Path.{◌≡◌, refl, sym, ap, ◌∙◌, fun_ext}
 use mathlib.Core.Bool.{true, false, cond}
 use mathlib.Core.List.{List, [], ◌∷◌, ◌++◌, append-nil}
@@ -32,7 +33,7 @@ use Rattle.tables.proofs.Counts.{sent_fits}
 use Rattle.tables.proofs.Change.{Linked, bench_path, Becomes, remains, refused_links}
 
 -- more is taken of the line j: what is taken changes at that line alone
-taken_put : (L : ℕ → List ℕ) (k j : ℕ) (b b' : Bench) → (j ≡ k → ⊥)
+taken_put : (L : ℕ → List Entry) (k j : ℕ) (b b' : Bench) → (j ≡ k → ⊥)
     → ((i : ℕ) → (i ≡ j → ⊥) → (get_or b'.taken i 0 ≡ get_or b.taken i 0) × (has b'.outs i ≡ has b.outs i))
     → (m : Message) → line_of (L j) (get_or b'.taken j 0) (has b'.outs j) ≡ line_of (L j) (get_or b.taken j 0) (has b.outs j) ++ (m ∷ [])
     → taken_by L k b' ≡ put (taken_by L k b) (suc j) (taken_by L k b (suc j) ++ (m ∷ []))
@@ -45,16 +46,16 @@ taken_put L k j b b' ne f m e = fun_ext go
         (λ p. let p' : i ≡ j = omega arith in rw (p', ne_eqb j k ne) e)
         (λ p. let p' : (i ≡ j → ⊥) = λ (x : i ≡ j). p (omega arith) in rw ((f i p').0, (f i p').1) refl)
 
-module _ (N : ℕ) (t l : List (List ℕ)) (s : Sound N t l) (k j : ℕ) (hk : k < N) (hj : j < N) (ne : j ≡ k → ⊥) where
+module _ (N : ℕ) (t : List Bench) (l : List (List Entry)) (s : Sound N t l) (k j : ℕ) (hk : k < N) (hj : j < N) (ne : j ≡ k → ⊥) where
   -- the bench, the sender and its log, and how many of its round messages the bench has taken
   abbrev b : Bench
-  b = rows places t k
+  b = rows t k
 
   abbrev c : Bench
-  c = rows places t j
+  c = rows t j
 
-  abbrev log : List ℕ
-  log = get_or l j []
+  abbrev log : List Entry
+  log = logs l j
 
   abbrev n : ℕ
   n = get_or b.taken j 0
@@ -67,7 +68,7 @@ module _ (N : ℕ) (t l : List (List ℕ)) (s : Sound N t l) (k j : ℕ) (hk : k
 
   -- ---- a round message is taken
 
-  round_becomes : n < c.sent → has b.outs j ≡ false → Becomes N (rows places t) (logs l) k (taken_of b j (suc n)) (logs l k)
+  round_becomes : n < c.sent → has b.outs j ≡ false → Becomes N (rows t) (logs l) k (taken_of b j (suc n)) (logs l k)
   unfolding taken_of
   round_becomes h o = let f = s.ok.fit k in record {
     size = s.logs k (omega (arith, s.fits));
@@ -107,7 +108,7 @@ module _ (N : ℕ) (t l : List (List ℕ)) (s : Sound N t l) (k j : ℕ) (hk : k
 
   -- ---- OUT is taken
 
-  out_becomes : n ≡ c.sent → eqb c.silent 1 ≡ true → Becomes N (rows places t) (logs l) k (out_of b j) (logs l k)
+  out_becomes : n ≡ c.sent → eqb c.silent 1 ≡ true → Becomes N (rows t) (logs l) k (out_of b j) (logs l k)
   unfolding out_of
   out_becomes h g = let f = s.ok.fit k in record {
     size = s.logs k (omega (arith, s.fits));

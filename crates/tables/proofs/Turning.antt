@@ -1,4 +1,6 @@
 -- A turn on the tables is the published turn. Assumes nothing.
+use Rattle.bench.specs.declared.Entry.{Entry}
+use Rattle.bench.specs.Entries.{entry}
 use mathlib.Core.Path.{◌≡◌, refl, sym, ◌∙◌}
 use mathlib.Core.Bool.{Bool, true, false, cond, not}
 use mathlib.Core.List.{List, ◌∷◌}
@@ -22,7 +24,10 @@ use Rattle.common.specs.Places.{has}
 use Rattle.bench.specs.Changes.{choosing, in_round}
 use Rattle.bench.specs.Turns.{awaits_of, forbids_of, least, gather_of, refuses, go_on_of, concludes, turn_of}
 use Rattle.bench.proofs.Answers.{next_within}
-use Rattle.kinds.specs.Sizes.{places, depth}
+use Rattle.kinds.specs.Sizes.{depth}
+use Rattle.kinds.specs.Refusals.{number_of}
+use Rattle.kinds.specs.declared.Refusal.{Refusal}
+use Rattle.kinds.specs.declared.Refusal.TheVariants.{WrongState, MemberAwaited}
 use Rattle.tables.specs.Rows.{rows, logs}
 use Rattle.tables.specs.Lines.{message, hears, heard_of}
 use Rattle.tables.specs.Steps.{acted, sent_of, turn_by, turn_on, turn_at}
@@ -35,10 +40,10 @@ use Rattle.tables.proofs.Counts.{room_for, reached, sent_fits}
 use Rattle.tables.proofs.Change.{Linked}
 use Rattle.tables.proofs.Checks.{asks, bars, all_hold_lem, behind}
 
-module _ (N : ℕ) (t l : List (List ℕ)) (s : Sound N t l) (k : ℕ) (hk : k < N) where
+module _ (N : ℕ) (t : List Bench) (l : List (List Entry)) (s : Sound N t l) (k : ℕ) (hk : k < N) where
   -- the bench, what it has heard, and the bench of the run
   abbrev b : Bench
-  b = rows places t k
+  b = rows t k
 
   abbrev h : Heard
   h = heard_of N l b
@@ -55,17 +60,17 @@ module _ (N : ℕ) (t l : List (List ℕ)) (s : Sound N t l) (k : ℕ) (hk : k <
 
   -- ---- a check of turn beside the published one
 
-  asks_turn : (n : ℕ) (c d : Bool) (p : Turned) (more : List Check) (next : Answer) → d ≡ c → (c ≡ true → Linked N (turn_on t l k p) (judge no more next))
-      → Linked N (turn_on t l k (cond c p (refuses b n))) (judge no (needs n d ∷ more) next)
+  asks_turn : (r : Refusal) (c d : Bool) (p : Turned) (more : List Check) (next : Answer) → d ≡ c → (c ≡ true → Linked N (turn_on t l k p) (judge no more next))
+      → Linked N (turn_on t l k (cond c p (refuses b r))) (judge no (needs (number_of r) d ∷ more) next)
   unfolding turn_on turn_by
-  asks_turn n true d p more next e f = asks N t l s n true d _ more next e f
-  asks_turn n false d p more next e f = asks N t l s n false d _ more next e f
+  asks_turn r true d p more next e f = asks N t l s (number_of r) true d _ more next e f
+  asks_turn r false d p more next e f = asks N t l s (number_of r) false d _ more next e f
 
-  bars_turn : (n : ℕ) (c d : Bool) (p : Turned) (more : List Check) (next : Answer) → d ≡ not c → (c ≡ false → Linked N (turn_on t l k p) (judge no more next))
-      → Linked N (turn_on t l k (cond c (refuses b n) p)) (judge no (needs n d ∷ more) next)
+  bars_turn : (r : Refusal) (c d : Bool) (p : Turned) (more : List Check) (next : Answer) → d ≡ not c → (c ≡ false → Linked N (turn_on t l k p) (judge no more next))
+      → Linked N (turn_on t l k (cond c (refuses b r) p)) (judge no (needs (number_of r) d ∷ more) next)
   unfolding turn_on turn_by
-  bars_turn n true d p more next e f = bars N t l s n true d _ more next e f
-  bars_turn n false d p more next e f = bars N t l s n false d _ more next e f
+  bars_turn r true d p more next e f = bars N t l s (number_of r) true d _ more next e f
+  bars_turn r false d p more next e f = bars N t l s (number_of r) false d _ more next e f
 
   -- ---- a running bench: what turn asks is what the published turn asks
 
@@ -83,10 +88,10 @@ module _ (N : ℕ) (t l : List (List ℕ)) (s : Sound N t l) (k : ℕ) (hk : k <
     unfolding run_of run_by
     zs = see_is N s.fits (logs l) k b (s.ok.own k) (s.ok.own_out k) first h hs
 
-    worlds : (j : ℕ) → j < N → has h.set j ≡ true → get_or h.worlds j 0 < 2 ^ N
+    worlds : (j : ℕ) → j < N → has h.set j ≡ true → (entry h.entries j).world < 2 ^ N
     worlds j hj e =
         let c : hears b j ≡ true = sym (hs.who j ∙ rw (lt-ltb j N hj) refl) ∙ e in
-        rw (hs.what j hj c).1 (s.ok.worlds j (b.round.0 - 1) (omega (arith, leb-true b.round.0 (get_or b.taken j 0) c, s.ok.line k j, first)))
+        rw (hs.what j hj c) (s.ok.worlds j (b.round.0 - 1) (omega (arith, leb-true b.round.0 (get_or b.taken j 0) c, s.ok.line k j, first)))
 
     settled_eq : settled N (suc k) x ≡ not (awaits_of N b h)
     unfolding settled run_of run_by bench_of
@@ -100,7 +105,7 @@ module _ (N : ℕ) (t l : List (List ℕ)) (s : Sound N t l) (k : ℕ) (hk : k <
     unfolding next_world run_of run_by bench_of
     world_eq = heard_is N b h (see (suc k) x) zs ((s.ok.fit k).running st).2
 
-    value_eq : least b.value.0 (bit_and b.world h.set) h.values N ≡ next_value N (suc k) x
+    value_eq : least b.value.0 (bit_and b.world h.set) h.entries N ≡ next_value N (suc k) x
     unfolding next_value run_of run_by bench_of
     value_eq = least_is N b h (see (suc k) x) zs
 
@@ -124,7 +129,7 @@ module _ (N : ℕ) (t l : List (List ℕ)) (s : Sound N t l) (k : ℕ) (hk : k <
     unfolding turn_on turn_by go_on_of gather_of in_round advancing
     goes_on room = rw (next_within b.round.0 room, value_eq, world_eq) (enters room (next_value N (suc k) x) (next_world N (suc k) x) next_world_lem)
 
-    -- W9: a log has room for the round that it goes on to
+    -- a log has room for the round that it goes on to
     room_left : settled N (suc k) x ≡ true → decides N (suc k) x ≡ false → b.round.0 < depth
     unfolding run_of run_by bench_of state_of
     room_left e d = omega (arith, next_round_lem N run (reached N t l s) (suc k) (rw st refl) d e, room_for N s.fits)
@@ -138,8 +143,8 @@ module _ (N : ℕ) (t l : List (List ℕ)) (s : Sound N t l) (k : ℕ) (hk : k <
   pub turn_links : Linked N (turn_at N t l k) (behind N t l s 1 (turn (suc k)))
   unfolding turn_at turn_of checks after
   turn_links =
-      asks_turn 3 (eqb b.state 1) _ _ _ _ state_is λ e₃. let st = eqb-true b.state 1 e₃ in
-      bars_turn 11 (awaits_of N b h) _ _ _ _ (settled_eq st) λ e₁₁.
+      asks_turn WrongState (eqb b.state 1) _ _ _ _ state_is λ e₃. let st = eqb-true b.state 1 e₃ in
+      bars_turn MemberAwaited (awaits_of N b h) _ _ _ _ (settled_eq st) λ e₁₁.
       all_hold_lem N t l s _ _ (ends st (settled_eq st ∙ rw e₁₁ refl))
     where
       state_is : is_running x.state ≡ eqb b.state 1

@@ -1,9 +1,11 @@
--- What holds of two tables that steps have made from the empty ones, for N benches. The first table is read as benches by place, the second
--- as logs by place; rows past the last read as blank benches, so every statement is for all places.
-use Rattle.std.specs.Prelude.{◌≡◌, true, false, List, [], ℕ, ◌+◌, ◌^◌, ◌≤◌, ◌<◌, eqb, get_or, length}
+-- What holds of two tables that steps have made from the empty ones, for N benches. Behind the last place stand blank benches and empty logs, so
+-- every statement is for all places.
+use Rattle.std.specs.Prelude.{◌≡◌, true, false, List, ℕ, ◌^◌, ◌≤◌, ◌<◌, eqb, get_or, length}
 use Rattle.published.specs.Rounds.{Step, run_from, new_run}
 use Rattle.kinds.specs.Sizes.{places, depth}
 use Rattle.bench.specs.declared.Bench.{Bench}
+use Rattle.bench.specs.declared.Entry.{Entry}
+use Rattle.bench.specs.Entries.{entry}
 use Rattle.common.specs.Places.{has}
 use Rattle.tables.specs.Rows.{rows, logs}
 use Rattle.tables.specs.Runs.{run_of}
@@ -24,7 +26,7 @@ pub record Fit (N : ℕ) (b : Bench) : Type 0 where
   pub abstained : b.state ≡ 3 → b.sent ≡ 0
 
 -- benches and their logs together
-pub record Ok (N : ℕ) (B : ℕ → Bench) (L : ℕ → List ℕ) : Type 0 where
+pub record Ok (N : ℕ) (B : ℕ → Bench) (L : ℕ → List Entry) : Type 0 where
   pub fit : (k : ℕ) → Fit N (B k)
   -- a bench has taken its own messages
   pub own : (k : ℕ) → get_or (B k).taken k 0 ≡ (B k).sent
@@ -33,15 +35,15 @@ pub record Ok (N : ℕ) (B : ℕ → Bench) (L : ℕ → List ℕ) : Type 0 wher
   pub line : (k j : ℕ) → get_or (B k).taken j 0 ≤ (B j).sent
   pub end : (k j : ℕ) → has (B k).outs j ≡ true → (eqb (B j).silent 1 ≡ true) × (get_or (B k).taken j 0 ≡ (B j).sent)
   -- a world that was sent names no bench above N
-  pub worlds : (k i : ℕ) → i < (B k).sent → get_or (L k) (i + depth) 0 < 2 ^ N
+  pub worlds : (k i : ℕ) → i < (B k).sent → (entry (L k) i).world < 2 ^ N
 
-pub record Sound (N : ℕ) (t l : List (List ℕ)) : Type 0 where
+pub record Sound (N : ℕ) (t : List Bench) (l : List (List Entry)) : Type 0 where
   -- the tables have room for N benches
   pub fits : N ≤ places
   pub benches : length t ≡ places
   pub books : length l ≡ places
-  pub ok : Ok N (rows places t) (logs l)
-  pub logs : (k : ℕ) → k < places → length (get_or l k []) ≡ depth + depth
+  pub ok : Ok N (rows t) (logs l)
+  pub logs : (k : ℕ) → k < places → length (logs l k) ≡ depth
   -- some steps lead to the run that they stand for: so no round is sent for which a log has no room
   pub steps : List Step
   pub led : run_from N new_run steps ≡ run_of t l

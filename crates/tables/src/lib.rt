@@ -1,41 +1,51 @@
-// A run as two tables of words, a row for each bench in both: their types, and where each word of a bench's row stands. What the seven steps do
-// to them, which run they stand for, and that the steps are the published rounds: definitions and theorems in specs/ and proofs/. There is no code here.
+// A run as two tables, of benches and of their logs. What the seven steps do to them, which run they stand for, and that the steps are the
+// published rounds: definitions and theorems in specs/ and proofs/.
 
 #![tactic(auto)]
 
-use kinds::{DEPTH, PLACES};
+ghost use Rattle.std.specs.Prelude.{◌≡◌};
+ghost use Rattle.tables.specs.Steps.{empty_tables};
 
-// Row k is bench k + 1's.
-pub type Benches = [Row; PLACES];
+use bench::{Bench, Entry, FRESH, NO_ENTRY};
+use kinds::{DEPTH, PLACES, RoundNo, SlotNo};
 
-// Nine words, and from TAKEN on how many round messages the bench has taken of each place.
-pub type Row = [u32; ROW];
+// Bench k + 1 stands at k.
+pub type Benches = [Bench; PLACES];
 
-// Row k is bench k + 1's log: the value that it sent in round r at r - 1, and the world DEPTH places further.
-pub type Logs = [[u32; LOG]; PLACES];
+// What a bench said in round r stands at r - 1.
+pub type Log = [Entry; DEPTH];
 
-// How many words a row has, and a log.
-pub const ROW: usize = TAKEN + PLACES;
+// Bench k + 1's log stands at k.
+pub type Logs = [Log; PLACES];
 
-pub const LOG: usize = DEPTH + DEPTH;
+// All that is held of a run.
+#[derive(Clone, Copy)]
+pub struct Tables {
+    pub benches: Benches,
+    pub logs: Logs,
+}
 
-// One of the states that crate `bench` names.
-pub const STATE: usize = 0;
-
-pub const ROUND: usize = 1;
-
-pub const VALUE: usize = 2;
-
-pub const WORLD: usize = 3;
-// The benches whose OUT it has taken, and those whose failure it has noticed.
-pub const OUTS: usize = 4;
-
-pub const NOTICED: usize = 5;
-// The last round that it sent, or 0; 1 once it has sent OUT; 1 once it has decided.
-pub const SENT: usize = 6;
-
-pub const SILENT: usize = 7;
-
-pub const CHOSE: usize = 8;
-
-pub const TAKEN: usize = 9;
+impl Tables {
+    // A new run: every bench is fresh and has done nothing, and nothing stands in any log.
+    #[tactic(auto, unfolding(crate::specs::Steps::empty_tables))]
+    pub fn new() -> Tables
+        ensures { result ≡ empty_tables }
+    {
+        let bench = Bench {
+            state: FRESH,
+            round: RoundNo(0),
+            value: SlotNo(0),
+            world: 0,
+            outs: 0,
+            noticed: 0,
+            sent: 0,
+            silent: 0,
+            chose: 0,
+            taken: [0; PLACES],
+        };
+        Tables {
+            benches: [bench; PLACES],
+            logs: [[NO_ENTRY; DEPTH]; PLACES],
+        }
+    }
+}

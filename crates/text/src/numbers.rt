@@ -1,76 +1,65 @@
-// Numbers read: 1 to 5 digits, no leading zero.
-ghost use Rattle.std.specs.Prelude.{◌≡◌, ◌≤◌, ◌<◌, cond, eqb, length};
-ghost use Rattle.spelling.specs.Fields.{digit_at, more_digits, number_at, field_at, below};
+// Numbers read, with no leading zero: of 1 to 5 digits, and tags, which have 1 to 10 and are at most 4,294,967,295.
+ghost use Rattle.std.specs.Prelude.{◌≡◌, ◌≤◌, ◌<◌, ◌^◌, suc, MatchOption, IfSome};
+ghost use Rattle.spelling.specs.Fields.{digit_at, number_upto, number_at, field_at};
+ghost use Rattle.spelling.specs.LedgerReading.{tag_at};
 
 use crate::bytes;
 use spelling::Found;
 
-// The value of the digit at a place, or 10.
-pub fn digit_at(text: &[u8], at: usize) -> u32
-    ensures { result ≡ digit_at text.now at }
+// The value of the digit at a place.
+fn digit_at(text: &[u8], at: usize) -> Option<u64>
+    ensures { MatchOption result (10 ≤ digit_at text.now at) (λ d. (d ≡ digit_at text.now at) × (d < 10)) }
 {
-    if text.len() <= at {
-        return 10;
-    }
-    let c = text[at];
-    if c < 48 {
-        return 10;
-    }
-    if 57 < c {
-        return 10;
-    }
-    (c - 48) as u32
-}
-
-// The number whose digits so far make `first`, and of which up to `room` more may follow.
-fn more_digits(text: &[u8], from: usize, first: u32, room: usize) -> Found
-    requires { (from ≤ length text.now) × (first < below 5 room) }
-    ensures { result ≡ more_digits room text.now from first }
-{
-    let mut at = from;
-    let mut v = first;
-    let mut left = room;
-    loop {
-        let d = digit_at(text, at);
-        if 10 <= d {
-            return Found::Got(v, at);
-        }
-        if left == 0 {
-            return Found::Nothing;
-        }
-        v = v * 10 + d;
-        at += 1;
-        left -= 1;
+    let c = *text.get(at)?;
+    if c.is_ascii_digit() {
+        Some(u64::from(c - b'0'))
+    } else {
+        None
     }
 }
 
-// How many digits may follow a first one: none after a 0.
-fn room_behind(first: u32) -> usize
-    ensures { result ≡ cond (eqb first 0) 0 4 }
+// The number at a place, of which up to `more` digits may follow the first: none after a 0.
+fn number_upto(text: &[u8], at: usize, more: usize) -> Found<u64>
+    requires { more ≤ 9 }
+    ensures value { result ≡ number_upto more text.now at }
+    ensures short { IfSome result (λ (n, end). n < 10 ^ suc more) }
 {
-    if first == 0 {
-        return 0;
+    let mut number = digit_at(text, at)?;
+    let room = if number == 0 { 0 } else { more };
+    let mut end = at + 1;
+    while let Some(digit) = digit_at(text, end) {
+        if room < end - at {
+            return None;
+        }
+        number = number * 10 + digit;
+        end += 1;
     }
-    4
+    Some((number, end))
 }
 
 // The number at a place.
-pub fn number_at(text: &[u8], at: usize) -> Found
+#[tactic(auto, unfolding(spelling::specs::Fields::number_at))]
+pub fn number_at(text: &[u8], at: usize) -> Found<u32>
     ensures { result ≡ number_at text.now at }
 {
-    let d = digit_at(text, at);
-    if 10 <= d {
-        return Found::Nothing;
-    }
-    more_digits(text, at + 1, d, room_behind(d))
+    let (number, end) = number_upto(text, at, 4)?;
+    Some((number as u32, end))
+}
+
+// The tag at a place.
+#[tactic(auto, unfolding(spelling::specs::LedgerReading::tag_at))]
+pub fn tag_at(text: &[u8], at: usize) -> Found<u32>
+    ensures { result ≡ tag_at text.now at }
+{
+    let (tag, end) = number_upto(text, at, 9)?;
+    Some((u32::try_from(tag).ok()?, end))
 }
 
 // A key at a place, and the number behind it.
-pub fn field_at(text: &[u8], at: usize, key: &[u8]) -> Found
+#[inline(always)]
+#[tactic(auto, unfolding(spelling::specs::Fields::field_at))]
+pub fn field_at<const N: usize>(text: &[u8], at: usize, key: &[u8; N]) -> Found<u32>
     ensures { result ≡ field_at key.now text.now at }
 {
-    if !bytes::starts(text, at, key) {
-        return Found::Nothing;
-    }
-    number_at(text, at + key.len())
+    number_at(text, bytes::behind(text, at, key)?)
 }

@@ -1,42 +1,28 @@
--- `verb_at` meets its contract: a law for each way, by the first key that stands there.
-use native.Mathlib.Omega.{arith}
-use Rattle.spelling.specs.Numbers.{ascii}
-use Rattle.spelling.proofs.Keys.{key_room}
-use Rattle.ledger_text.proofs.Verbs.{verb_sweep, verb_close, verb_hand, verb_join, verb_end, verb_none}
+-- `verb_at` meets its contract. Key after key. Assumes nothing.
+use mathlib.Core.Path.{refl}
+use Rattle.spelling.specs.LedgerReading.{ledger_verb_at, ledger_key_of}
 use Rattle.ledger_text.proofs.reading.verb_at.Goals as goal
 
-pub overflow_add-result : goal.overflow_add-result
-overflow_add-result c = omega (arith, key_room (ascii "sweep sender=") c.args.text.now c.args.at c.starts.ensures c.if-starts.true)
+pub returns-in-Some : goal.returns-in-Some
+unfolding ledger_verb_at ledger_key_of
+returns-in-Some c = rw (← c.in-Some.ensures) refl
 
-pub returns-then-starts : goal.returns-then-starts
-returns-then-starts c = search verb_sweep
+pub returns-in-Some-behind : goal.returns-in-Some-behind
+unfolding ledger_verb_at ledger_key_of
+returns-in-Some-behind c = rw (← c.in_default.ensures, ← c.in-Some-behind.ensures) refl
 
-pub overflow_add-result-then-starts-2 : goal.overflow_add-result-then-starts-2
-overflow_add-result-then-starts-2 c = omega (arith, key_room (ascii "close sender=") c.args.text.now c.args.at c.starts-2.ensures c.if-starts-2.true)
+pub returns-in-Some-behind-2 : goal.returns-in-Some-behind-2
+unfolding ledger_verb_at ledger_key_of
+returns-in-Some-behind-2 c = rw (← c.in_default.ensures, ← c.in_default-behind.ensures, ← c.in-Some-behind-2.ensures) refl
 
-pub returns-then-starts-2 : goal.returns-then-starts-2
-returns-then-starts-2 c = search verb_close
+pub returns-in-Some-behind-3 : goal.returns-in-Some-behind-3
+unfolding ledger_verb_at ledger_key_of
+returns-in-Some-behind-3 c = rw (← c.in_default.ensures, ← c.in_default-behind.ensures, ← c.in_default-behind-2.ensures, ← c.in-Some-behind-3.ensures) refl
 
-pub overflow_add-result-then-starts-3 : goal.overflow_add-result-then-starts-3
-overflow_add-result-then-starts-3 c = omega (arith, key_room (ascii "handout room=") c.args.text.now c.args.at c.starts-3.ensures c.if-starts-3.true)
-
-pub returns-then-starts-3 : goal.returns-then-starts-3
-returns-then-starts-3 c = search verb_hand
-
-pub overflow_add-result-then-starts-4 : goal.overflow_add-result-then-starts-4
-overflow_add-result-then-starts-4 c = omega (arith, key_room (ascii "join sender=") c.args.text.now c.args.at c.starts-4.ensures c.if-starts-4.true)
-
-pub returns-then-starts-4 : goal.returns-then-starts-4
-returns-then-starts-4 c =
-    verb_join _ _ c.starts.ensures c.if-starts.false c.starts-2.ensures c.if-starts-2.false c.starts-3.ensures c.if-starts-3.false c.starts-4.ensures c.if-starts-4.true
-
-pub overflow_add-result-then-starts-5 : goal.overflow_add-result-then-starts-5
-overflow_add-result-then-starts-5 c = omega (arith, key_room (ascii "end sender=") c.args.text.now c.args.at c.starts-5.ensures c.if-starts-5.true)
-
-pub returns-then-starts-5 : goal.returns-then-starts-5
-returns-then-starts-5 c =
-    verb_end _ _ c.starts.ensures c.if-starts.false c.starts-2.ensures c.if-starts-2.false c.starts-3.ensures c.if-starts-3.false c.starts-4.ensures c.if-starts-4.false c.starts-5.ensures c.if-starts-5.true
+pub returns-in-Some-behind-4 : goal.returns-in-Some-behind-4
+unfolding ledger_verb_at ledger_key_of
+returns-in-Some-behind-4 c = rw (← c.in_default.ensures, ← c.in_default-behind.ensures, ← c.in_default-behind-2.ensures, ← c.in_default-behind-3.ensures, ← c.in-Some-behind-4.ensures) refl
 
 pub returns : goal.returns
-returns c =
-    verb_none _ _ c.starts.ensures c.if-starts.false c.starts-2.ensures c.if-starts-2.false c.starts-3.ensures c.if-starts-3.false c.starts-4.ensures c.if-starts-4.false c.starts-5.ensures c.if-starts-5.false
+unfolding ledger_verb_at ledger_key_of
+returns c = rw (← c.in_default.ensures, ← c.in_default-behind.ensures, ← c.in_default-behind-2.ensures, ← c.in_default-behind-3.ensures, ← c.in_default-behind-4.ensures) refl

@@ -1,23 +1,9 @@
--- `lacks_one`: the world lacks no bench below j.
+-- `lacks_one`: `any` visits the places below n.
 use Rattle.std.proofs.Common.{rules}
-use mathlib.Core.Path.{refl}
-use Rattle.common.specs.Places.{some}
-use Rattle.tables.specs.Steps.{lacks_one}
-use Rattle.common.proofs.Places.{some_passed}
-use Rattle.bench.proofs.Visits.{found_among, none_among}
+use Rattle.tables.specs.Steps.{lacks_at, lacks_one}
+use Rattle.bench.proofs.Visits.{any_some}
 use Rattle.reads.proofs.worlds.lacks_one.Goals as goal
-
-pub loop-j-init : goal.loop-j-init
-unfolding some
-loop-j-init c = (search rules, refl)
-
-pub returns-then-lacks_at : goal.returns-then-lacks_at
-unfolding lacks_one
-returns-then-lacks_at c = search found_among
-
-pub loop-j-preserved : goal.loop-j-preserved
-loop-j-preserved c = (search rules, search some_passed)
 
 pub returns : goal.returns
 unfolding lacks_one
-returns c = search none_among
+returns c = any_some (lacks_at c.args.benches.now c.args.world) _ _ c.benches_of.ensures.0 _ _ _ c.any.ensures.ran (λ x b q k. search rules)

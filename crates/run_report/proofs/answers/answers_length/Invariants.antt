@@ -1,11 +1,6 @@
 -- `answers_length`: the sum of the lines so far, and what is left.
-use Prim.Native.Nat.{◌-◌}
-use lib.ListN.{length}
 use Rattle.run_report.proofs.AnswerLines.{Measured}
 use Rattle.run_report.proofs.answers.answers_length.Given as goal
 
 abbrev pub invariant-loop-i : goal.invariant-loop-i
-invariant-loop-i l = Measured l.answers l.i l.n
-
-abbrev pub decreases-loop-i : goal.decreases-loop-i
-decreases-loop-i l = length l.answers - l.i
+invariant-loop-i l = Measured l.answer-items l.i l.n

@@ -1,9 +1,10 @@
--- `refused_in`: the refusals so far are counted, and those from here on are still to be.
-use Rattle.run_report.proofs.TotalsLine.{counted_more, counted_all}
+-- `refused_in`: `filter` and `count` are std's count.
+use Rattle.std.proofs.Common.{rules, ◌≡◌, ℕ, ◌∙◌, not, eqb, count_by}
+use Rattle.run_report.proofs.TotalsLine.{refused_counted}
 use Rattle.run_report.proofs.totals.refused_in.Goals as goal
 
-pub loop-i-preserved : goal.loop-i-preserved
-loop-i-preserved c = search counted_more
-
 pub returns : goal.returns
-returns c = search counted_all
+returns c =
+    let items = c.args.answers.now.items in
+    let counted : c.count.result ≡ count_by (λ (a : ℕ). not (eqb a 0)) items = search rules in
+    counted ∙ refused_counted items

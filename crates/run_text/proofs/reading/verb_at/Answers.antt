@@ -1,27 +1,36 @@
--- `verb_at` meets its contract: a law for each way, by the first key that stands there.
-use native.Mathlib.Omega.{arith}
-use Rattle.spelling.specs.Numbers.{ascii}
-use Rattle.spelling.proofs.Keys.{key_room}
-use Rattle.run_text.proofs.Verbs.{verb_arrive, verb_turn, verb_notice, verb_rare}
+-- `verb_at` meets its contract. Key after key. Assumes nothing.
+use mathlib.Core.Path.{refl}
+use Rattle.spelling.specs.Reading.{verb_at, key_of}
 use Rattle.run_text.proofs.reading.verb_at.Goals as goal
 
-pub overflow_add-result : goal.overflow_add-result
-overflow_add-result c = omega (arith, key_room (ascii "arrive bench=") c.args.text.now c.args.at c.starts.ensures c.if-starts.true)
+pub returns-in-Some : goal.returns-in-Some
+unfolding verb_at key_of
+returns-in-Some c = rw (← c.in-Some.ensures) refl
 
-pub returns-then-starts : goal.returns-then-starts
-returns-then-starts c = search verb_arrive
+pub returns-in-Some-behind : goal.returns-in-Some-behind
+unfolding verb_at key_of
+returns-in-Some-behind c = rw (← c.in_default.ensures, ← c.in-Some-behind.ensures) refl
 
-pub overflow_add-result-then-starts-2 : goal.overflow_add-result-then-starts-2
-overflow_add-result-then-starts-2 c = omega (arith, key_room (ascii "turn bench=") c.args.text.now c.args.at c.starts-2.ensures c.if-starts-2.true)
+pub returns-in-Some-behind-2 : goal.returns-in-Some-behind-2
+unfolding verb_at key_of
+returns-in-Some-behind-2 c = rw (← c.in_default.ensures, ← c.in_default-behind.ensures, ← c.in-Some-behind-2.ensures) refl
 
-pub returns-then-starts-2 : goal.returns-then-starts-2
-returns-then-starts-2 c = search verb_turn
+pub returns-in-Some-behind-3 : goal.returns-in-Some-behind-3
+unfolding verb_at key_of
+returns-in-Some-behind-3 c = rw (← c.in_default.ensures, ← c.in_default-behind.ensures, ← c.in_default-behind-2.ensures, ← c.in-Some-behind-3.ensures) refl
 
-pub overflow_add-result-then-starts-3 : goal.overflow_add-result-then-starts-3
-overflow_add-result-then-starts-3 c = omega (arith, key_room (ascii "notice bench=") c.args.text.now c.args.at c.starts-3.ensures c.if-starts-3.true)
+pub returns-in-Some-behind-4 : goal.returns-in-Some-behind-4
+unfolding verb_at key_of
+returns-in-Some-behind-4 c = rw (← c.in_default.ensures, ← c.in_default-behind.ensures, ← c.in_default-behind-2.ensures, ← c.in_default-behind-3.ensures, ← c.in-Some-behind-4.ensures) refl
 
-pub returns-then-starts-3 : goal.returns-then-starts-3
-returns-then-starts-3 c = search verb_notice
+pub returns-in-Some-behind-5 : goal.returns-in-Some-behind-5
+unfolding verb_at key_of
+returns-in-Some-behind-5 c = rw (← c.in_default.ensures, ← c.in_default-behind.ensures, ← c.in_default-behind-2.ensures, ← c.in_default-behind-3.ensures, ← c.in_default-behind-4.ensures, ← c.in-Some-behind-5.ensures) refl
+
+pub returns-in-Some-behind-6 : goal.returns-in-Some-behind-6
+unfolding verb_at key_of
+returns-in-Some-behind-6 c = rw (← c.in_default.ensures, ← c.in_default-behind.ensures, ← c.in_default-behind-2.ensures, ← c.in_default-behind-3.ensures, ← c.in_default-behind-4.ensures, ← c.in_default-behind-5.ensures, ← c.in-Some-behind-6.ensures) refl
 
 pub returns : goal.returns
-returns c = search verb_rare
+unfolding verb_at key_of
+returns c = rw (← c.in_default.ensures, ← c.in_default-behind.ensures, ← c.in_default-behind-2.ensures, ← c.in_default-behind-3.ensures, ← c.in_default-behind-4.ensures, ← c.in_default-behind-5.ensures, ← c.in_default-behind-6.ensures) refl

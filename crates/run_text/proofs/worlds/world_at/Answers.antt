@@ -1,28 +1,34 @@
 -- `world_at` meets its contract. The loop keeps `Listed`: the world read from here on is the world read from the start. Assumes nothing.
 use native.Mathlib.Omega.{arith}
-use Rattle.spelling.proofs.Members.{listed_none, listed_fails, listed_member, listed_fits, listed_last, listed_more, listed_over}
+use mathlib.Core.Path.{◌∙◌}
+use Rattle.spelling.proofs.Members.{listed_none, listed_fails, listed_member, listed_fits, listed_last, listed_more, listed_next}
+use Rattle.run_text.proofs.Lines.{benches_few}
 use Rattle.run_text.proofs.worlds.world_at.Goals as goal
 
-pub loop-room-init : goal.loop-room-init
-loop-room-init c = search listed_none
+pub loop-bench-init : goal.loop-bench-init
+loop-bench-init c = search listed_none
 
-pub returns-in_default : goal.returns-in_default
-returns-in_default c = search listed_fails
+pub returns-in_err-bench : goal.returns-in_err-bench
+returns-in_err-bench c = c.from_residual.ensures ∙ listed_fails _ _ _ _ _ _ c.loop-bench.invariant c.in_err-bench.ensures
 
-pub bit_of-world-requires : goal.bit_of-world-requires
-bit_of-world-requires c =
-    let m = listed_member _ _ _ _ _ _ _ c.loop-room.invariant c.loop-room-test.true c.member_at.ensures _ _ c.in-Got.is in
-    (omega (arith, m.above), omega (arith, m.most))
+pub overflow_sub-bench : goal.overflow_sub-bench
+overflow_sub-bench c = let m = listed_member _ _ _ _ _ _ c.loop-bench.invariant _ _ c.in_ok-bench.ensures in omega (arith, m.above)
 
 pub overflow_add-world : goal.overflow_add-world
-overflow_add-world c =
-    record { fits = listed_fits _ _ _ _ _ _ _ c.loop-room.invariant c.loop-room-test.true c.member_at.ensures _ _ c.in-Got.is c.bit_of-world.ensures c.requires }
+overflow_add-world c = record { fits = listed_fits _ _ _ _ _ _ c.loop-bench.invariant _ _ c.in_ok-bench.ensures (benches_few c.args.size) c.only-world.ensures }
 
-pub returns-then-byte_at-ne44 : goal.returns-then-byte_at-ne44
-returns-then-byte_at-ne44 c = search listed_last
+pub returns-then-not-comma_at : goal.returns-then-not-comma_at
+returns-then-not-comma_at c =
+    listed_last _ _ _ _ _ _ c.loop-bench.invariant _ _ c.in_ok-bench.ensures (benches_few c.args.size) c.only-world.ensures c.comma_at.ensures c.if-not-comma_at.true
 
-pub loop-room-preserved : goal.loop-room-preserved
-loop-room-preserved c = search listed_more
+pub overflow_add-at : goal.overflow_add-at
+overflow_add-at c =
+    let n = listed_next _ _ _ _ _ _ c.loop-bench.invariant _ _ c.in_ok-bench.ensures (benches_few c.args.size) c.only-world.ensures c.comma_at.ensures c.if-not-comma_at.false in
+    omega arith
 
-pub returns : goal.returns
-returns c = search listed_over
+pub loop-bench-smaller : goal.loop-bench-smaller
+loop-bench-smaller c = let m = listed_member _ _ _ _ _ _ c.loop-bench.invariant _ _ c.in_ok-bench.ensures in omega (arith, m.above, m.most)
+
+pub loop-bench-preserved : goal.loop-bench-preserved
+loop-bench-preserved c =
+    listed_more _ _ _ _ _ _ c.loop-bench.invariant _ _ c.in_ok-bench.ensures (benches_few c.args.size) c.only-world.ensures c.comma_at.ensures c.if-not-comma_at.false

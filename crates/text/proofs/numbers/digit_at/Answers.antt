@@ -1,15 +1,13 @@
 -- `digit_at` meets its contract. By cases on the byte. Assumes nothing.
-use Rattle.spelling.proofs.Digits.{digit_out, digit_low, digit_high, digit_is}
+use Rattle.std.proofs.Common.{rules, arith}
+use Rattle.spelling.proofs.Digits.{digit_out, digit_is, digit_not}
 use Rattle.text.proofs.numbers.digit_at.Goals as goal
 
-pub returns-then-text-at : goal.returns-then-text-at
-returns-then-text-at c = search digit_out
+pub returns-in_err-c : goal.returns-in_err-c
+returns-in_err-c c = search (digit_out, rules)
 
-pub returns-then-c-lt48 : goal.returns-then-c-lt48
-returns-then-c-lt48 c = search digit_low
+pub returns-then-is_ascii_digit : goal.returns-then-is_ascii_digit
+returns-then-is_ascii_digit c = search (digit_is, rules)
 
-pub returns-then-c-gt57 : goal.returns-then-c-gt57
-returns-then-c-gt57 c = search digit_high
-
-pub returns : goal.returns
-returns c = search digit_is
+pub returns-else-is_ascii_digit : goal.returns-else-is_ascii_digit
+returns-else-is_ascii_digit c = search (digit_not, rules)

@@ -1,0 +1,19 @@
+-- `put_answer` meets its contract. With room what fits is both, without it nothing. Assumes nothing.
+use Rattle.std.proofs.Common.{◌++◌, refl}
+use Rattle.spelling.specs.Answers.{answer_text}
+use Rattle.spelling.specs.Numbers.{ascii, digits}
+use Rattle.room.proofs.Writers.{put_none, put_all, put_held, holds_behind, writes_then}
+use Rattle.room.proofs.writer.Writer.put_answer.Goals as goal
+
+pub returns-then-not-has_room_for_answer : goal.returns-then-not-has_room_for_answer
+returns-then-not-has_room_for_answer c = put_none _ _ _ _ refl c.has_room_for_answer.ensures c.if-not-has_room_for_answer.true
+
+pub store_field-requires-2 : goal.store_field-requires-2
+store_field-requires-2 c =
+    let both = answer_text c.args.line c.args.answer in
+    holds_behind c.store_field.ensures (ascii " answer=" ++ digits c.args.answer)
+    (put_held c.args.self.now both _ _ refl c.has_room_for_answer.ensures c.if-not-has_room_for_answer.false)
+
+pub returns : goal.returns
+returns c =
+    put_all _ _ _ _ refl c.has_room_for_answer.ensures c.if-not-has_room_for_answer.false (λ _. writes_then c.store_field.ensures c.store_field-2.ensures)

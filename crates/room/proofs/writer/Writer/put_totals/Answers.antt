@@ -1,0 +1,21 @@
+-- `put_totals` meets its contract. With room what fits is the line, without it nothing. Assumes nothing.
+use Rattle.std.proofs.Common.{arith}
+use Rattle.spelling.proofs.Decimals.{number_short}
+use Rattle.spelling.proofs.Answers.{totals_measured}
+use Rattle.room.proofs.Writers.{put_none, put_all, put_then, put_last}
+use Rattle.room.proofs.writer.Writer.put_totals.Goals as goal
+
+pub overflow_add-number_length : goal.overflow_add-number_length
+overflow_add-number_length c = omega (arith, number_short _ c.number_length.ensures)
+
+pub overflow_add-number_length-2 : goal.overflow_add-number_length-2
+overflow_add-number_length-2 c = omega (arith, number_short _ c.number_length.ensures, number_short _ c.number_length-2.ensures)
+
+pub returns-then-not-has_room : goal.returns-then-not-has_room
+returns-then-not-has_room c =
+    put_none _ _ _ _ (totals_measured _ _ c.number_length.ensures c.number_length-2.ensures) c.has_room.ensures c.if-not-has_room.true
+
+pub returns : goal.returns
+returns c =
+    let line = put_then _ _ c.put_field.ensures (put_then _ _ c.put_field-2.ensures (put_last _ c.put_bytes.ensures)) in
+    put_all _ _ _ _ (totals_measured _ _ c.number_length.ensures c.number_length-2.ensures) c.has_room.ensures c.if-not-has_room.false line
