@@ -38,9 +38,9 @@ use Rattle.senders.proofs.Seating.{rows_joined, rows_open_last, rows_joins, rows
 use Rattle.book.proofs.Outcomes.{positive, after_done, step_ind, step_fails, step_holds}
 use Rattle.ledger.proofs.Refused.{number_positive}
 
--- ---- what is held, in a room that is lent whole
+-- ---- what is held
 
--- no more room are read than there are
+-- no more places are read than there are
 pub held_min : (room : List code.Sweep) (k : ℕ) → length room ≡ room_words → held_in (min k room_words) room ≡ held_in k room
 unfolding held_in
 held_min room k h = split (leb k room_words)

@@ -1,5 +1,5 @@
-// One bench's store of received sweeps, handed out slot by slot. The caller lends it, and each step works in place and says why where it
-// refuses. specs/Book.antt of `book` says what each step does, specs/Seen.antt which book a ledger is, specs/Promises.antt what is promised.
+// One bench's store of received sweeps, handed out slot by slot: `Ledger`, and its steps in place. A step that is refused says why, and changes
+// nothing. specs/Book.antt of `book` says what each step does, specs/Seen.antt which book a ledger is, specs/Promises.antt what is promised.
 
 #![tactic(auto)]
 
@@ -24,7 +24,8 @@ pub const LAST_OUT: u32 = 65533;
 pub const ROOM: usize = 1024;
 
 // Where the ledger stands: the next slot to hand out, how many sweeps are held, and the set of the senders that have joined: place i of the
-// set is sender i + 1.
+// set is sender i + 1. The set stands here, and no row is an Option: the promise of each step names the set (`cursor_after`), and a hand-out
+// looks at no row behind the last that has joined.
 #[derive(Clone, Copy)]
 pub struct Cursor {
     pub next: SlotNo,
@@ -138,7 +139,7 @@ impl Ledger {
     pub fn sweep(&mut self, sender: BenchNo, tag: u32, size: Size) -> Result<(), Refusal>
         ensures { Tells (benches_of size) self.old (sweep sender.0 tag) (answer_of result) self.new }
     {
-        let (i, row) = self.known(sender, size)?;
+        let (_, row) = self.known(sender, size)?;
         may_sweep(row, self.cursor.held)?;
         self.room[self.cursor.held as usize] = Sweep {
             sender: sender.0 as u16,

@@ -73,6 +73,7 @@ pub(crate) fn take_out<F: Fn(Sweep) -> bool>(
     ensures few { result ≤ held }
     ensures taken { (p : Gone) → Tests (F.post goes) p → only p (held_in from room.old) ≡ [] → TakesOut p held room.old result room.new }
 {
+    // By index: the slice that is read is the one that is written, and no method of a slice takes places out of it.
     let mut k = from;
     for i in from..held {
         let sweep = room[i];
