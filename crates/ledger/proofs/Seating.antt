@@ -1,12 +1,12 @@
 -- Where the code looks for a sender's row: at the place right before the sender's number. Assumes nothing.
-use mathlib.Core.Path.{◌≡◌, refl, ap, ◌∙◌}
-use Prim.Native.Nat.{ℕ, zero, suc, ◌-◌, ◌≤◌, ◌<◌}
+use mathlib.Core.Path.{◌≡◌, refl}
+use Prim.Native.Nat.{ℕ, zero, suc, ◌≤◌, ◌<◌}
 use mathlib.Core.Bool.{true}
 use mathlib.Core.List.{List}
 use native.Mathlib.Omega.{arith}
 use Rattle.common.specs.Benches.{is_bench}
 use Rattle.common.specs.Places.{place_of}
-use Rattle.book.specs.Book.{Row, unknown}
+use Rattle.book.specs.Book.{unknown}
 use Rattle.kinds.specs.Sizes.{places}
 use Rattle.sets.proofs.Numbers.{bench_wider, place_next}
 use Rattle.senders.specs.declared.SenderRow.{SenderRow}
@@ -21,6 +21,3 @@ pub rows_below : (j : ℕ) (rows : List SenderRow) (s : ℕ) → s < 1 → unkno
 unfolding rows_of
 rows_below j rows zero h = refl
 rows_below j rows (suc i) h = absurd (omega arith)
-
-pub rows_number : (j : ℕ) (rows : List SenderRow) (s : ℕ) (x : Row) → x ≡ rows_of j rows (suc (s - 1)) → 1 ≤ s → x ≡ rows_of j rows s
-rows_number j rows s x e h = let k : suc (s - 1) ≡ s = omega arith in e ∙ ap (rows_of j rows) k

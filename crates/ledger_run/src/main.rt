@@ -9,8 +9,8 @@ ghost use Rattle.kinds.specs.declared.Size.TheVariants.{Sixteen};
 ghost use Rattle.reports.specs.LedgerReport.{ledger_report_of};
 ghost use Rattle.printing.specs.Printed.{printed};
 
-use ledger_report::{ROOM, report};
 use kinds::Refusal;
+use ledger_report::{ROOM, report};
 use printing::{Failure, Reporting, print_report};
 use std::io::{Read, Write};
 

@@ -1,13 +1,11 @@
 -- A text played line by line: what is answered so far, and what is still to come. Assumes nothing.
 use Rattle.bench.specs.declared.Bench.{Bench}
 use Rattle.bench.specs.declared.Entry.{Entry}
-use Prim.Native.Nat.{ℕ, ◌+◌, ◌-◌, ◌≤◌, ◌<◌}
+use Prim.Native.Nat.{ℕ, ◌-◌, ◌≤◌, ◌<◌}
 use native.Mathlib.Omega.{arith}
-use native.Mathlib.Numerals.{add-one}
 use mathlib.Core.List.{List, [], ◌∷◌, ◌++◌, append_assoc, append-nil}
 use mathlib.Core.Path.{◌≡◌, refl, sym, ap, ◌∙◌}
-use lib.ListN.{length, set, take, drop, length-set}
-use lib.Seq.{take-suc-set}
+use lib.ListN.{length, drop, length-append}
 use Rattle.published.specs.Rounds.{Run, new_run, refuse, run_from}
 use Rattle.kinds.specs.declared.Step.{Step}
 use Rattle.kinds.specs.Stand.{step_of}
@@ -74,64 +72,56 @@ run_more z s None m k s' e u = rw e (ap (λ (w : Run). run_from (benches_of z) w
 
 -- ---- the text, line by line
 
--- the first `count` lines, which stand before the place, are answered; played on from the tables, the others give the rest of the answers.
--- answers₀ held what was there before
-pub record Playing (z : Size) (text answers₀ : List ℕ) (t : List Bench) (l : List (List Entry)) (answers : List ℕ) (at count : ℕ) : Type 0 where
+-- the lines before the place are answered; played on from the tables, the others give the rest of the answers
+pub record Playing (z : Size) (text : List ℕ) (t : List Bench) (l : List (List Entry)) (answers : List ℕ) (at : ℕ) : Type 0 where
   pub sound : Sound (benches_of z) t l
   pub within : at ≤ length text
-  pub few : count ≤ at
-  pub long : length answers ≡ length answers₀
-  pub room : length text ≤ length answers₀
-  pub answered : answers_from z new_run (read_text (benches_of z) text) ≡ take count answers ++ answers_from z (run_of t l) (read_text (benches_of z) (drop at text))
+  pub few : length answers ≤ at
+  pub answered : answers_from z new_run (read_text (benches_of z) text) ≡ answers ++ answers_from z (run_of t l) (read_text (benches_of z) (drop at text))
   pub run : run_after z text ≡ run_from (benches_of z) (run_of t l) (steps_of (read_text (benches_of z) (drop at text)))
 
-module _ (z : Size) (text answers₀ : List ℕ) where
-  pub playing_none : (x : Tables) → x ≡ empty_tables → length text ≤ length answers₀ → Playing z text answers₀ x.benches x.logs answers₀ 0 0
-  playing_none x e h =
-      rw e
+module _ (z : Size) (text : List ℕ) where
+  pub playing_none : (x : Tables) → x ≡ empty_tables → (answers : List ℕ) → answers ≡ [] → Playing z text x.benches x.logs answers 0
+  playing_none x e answers none =
+      rw (e, none)
       (record {
         sound = empty_sound (benches_of z) (benches_fit z);
         within = omega arith;
         few = omega arith;
-        long = refl;
-        room = h;
         answered = rw empty_run refl;
         run = rw empty_run refl;
       })
 
-  module _ (t : List Bench) (l : List (List Entry)) (answers : List ℕ) (at count : ℕ) (p : Playing z text answers₀ t l answers at count) where
-    -- the next line has room for its answer
-    pub playing_room : (x : Option Step) (next : ℕ) → read_line_of (benches_of z) text at ≡ Some (x, next) → count < length answers
-    playing_room x next e = let d = read_line_reads (benches_of z) text at x next e in omega (arith, p.few, p.long, p.room)
+  module _ (t : List Bench) (l : List (List Entry)) (answers : List ℕ) (at : ℕ) (p : Playing z text t l answers at) where
+    -- there are fewer answers than the text has bytes
+    pub playing_room : (x : Option Step) (next : ℕ) → read_line_of (benches_of z) text at ≡ Some (x, next) → length answers < length text
+    playing_room x next e = let d = read_line_reads (benches_of z) text at x next e in omega (arith, p.few)
 
     -- less of the text is left
     pub playing_less : (x : Option Step) (next : ℕ) → read_line_of (benches_of z) text at ≡ Some (x, next) → length text - next < length text - at
     playing_less x next e = let d = read_line_reads (benches_of z) text at x next e in omega arith
 
     pub playing_more : (x : Option Step) (next : ℕ) → read_line_of (benches_of z) text at ≡ Some (x, next) → (r : ℕ) (t' : List Bench) (l' : List (List Entry))
-        → Links (benches_of z) (refused r t' l') (answer_to z (run_of t l) x) → Playing z text answers₀ t' l' (set answers count r) next (count + 1)
+        → Links (benches_of z) (refused r t' l') (answer_to z (run_of t l) x) → Playing z text t' l' (answers ++ (r ∷ [])) next
     playing_more x next e r t' l' k =
         let d = read_line_reads (benches_of z) text at x next e in
         record {
           sound = k.sound;
           within = d.within;
-          few = omega (arith, p.few, d.above);
-          long = rw length-set p.long;
-          room = p.room;
+          few = omega (arith, length-append answers (r ∷ []), p.few, d.above);
           answered =
               p.answered
-              ∙ ap (λ (q : List ℕ). take count answers ++ q) (answers_more z (run_of t l) x _ _ r (run_of t' l') (read_on (benches_of z) text at x next d) k.number k.run)
-              ∙ rw (add-one, take-suc-set answers count r (playing_room x next e)) (sym (append_assoc (take count answers) (r ∷ []) _));
+              ∙ ap (λ (q : List ℕ). answers ++ q) (answers_more z (run_of t l) x _ _ r (run_of t' l') (read_on (benches_of z) text at x next d) k.number k.run)
+              ∙ sym (append_assoc answers (r ∷ []) _);
           run = p.run ∙ run_more z (run_of t l) x _ _ (run_of t' l') (read_on (benches_of z) text at x next d) k.run;
         }
 
-    pub playing_all : read_line_of (benches_of z) text at ≡ None → Played z text t l count answers
+    pub playing_all : read_line_of (benches_of z) text at ≡ None → Played z text t l answers
     unfolding answers_from steps_of run_from
     playing_all e =
         let d = read_line_ends (benches_of z) text at e in
         record {
           few = omega (arith, p.few, p.within);
-          inside = omega (arith, p.few, p.within, p.long, p.room);
-          answers_are = sym (p.answered ∙ rw d (append-nil (take count answers)));
+          answers_are = sym (p.answered ∙ rw d (append-nil answers));
           run_is = sym (p.run ∙ rw d refl);
         }

@@ -48,21 +48,17 @@ totals_room z t e p h = omega (arith, p.stored.place, stored_length p.stored, ro
 pub room_front : (k m : ℕ) {n : ℕ} → k + m ≤ n → k ≤ n
 room_front k m h = omega arith
 
--- a text has no more lines than bytes
-pub lines_few : {z : Size} {text answers : List ℕ} {t : List Bench} {l : List (List Entry)} {n : ℕ} → Played z text t l n answers → length text ≤ longest → length (take n answers) ≤ longest
-lines_few {answers = answers} {n = n} p h = omega (arith, p.few, length-take-le n answers p.inside)
-
--- what stands behind them is written from the tables and the answers after the text was played: n lines, r of them refused
-pub made : {z : Size} {text answers : List ℕ} {t : List Bench} {l : List (List Entry)} {n r : ℕ} {first out end : Writer} → Played z text t l n answers
-    → first.at ≡ 0 → Writes first (row_lines t (benches_of z)) out → r ≡ refused_in (take n answers) → Puts out (totals n r) end
-    → 67 * places + 36 ≤ length first.room.now → Made z text (take n answers) end.room.now end.at
+-- what stands behind them is written from the tables and the answers after the text was played, r of its lines refused
+pub made : {z : Size} {text answers : List ℕ} {t : List Bench} {l : List (List Entry)} {k r : ℕ} {first out end : Writer} → Played z text t l answers
+    → first.at ≡ 0 → Writes first (row_lines t (benches_of z)) out → k ≡ length answers → r ≡ refused_in answers → Puts out (totals k r) end
+    → 67 * places + 36 ≤ length first.room.now → Made z text answers end.room.now end.at
 unfolding run_report_of run_report_for
-made {z} {text} {answers} {t} {l} {n} {first = first} {end = end} p zero_is q₁ er q₂ h =
+made {z} {text} {answers} {t} {l} {first = first} {end = end} p zero_is q₁ ek er q₂ h =
     let b = row_lines t (benches_of z) in
-    let w = totals_of (take n answers) in
-    let q = writes_then q₁ (totals_written (take n answers) (sym (length-take-le n answers p.inside)) er (totals_room z t zero_is q₁ h) q₂) in
+    let w = totals_of answers in
+    let q = writes_then q₁ (totals_written answers ek er (totals_room z t zero_is q₁ h) q₂) in
     let s : Stored first.room.now 0 (b ++ w) end.at end.room.now = rw zero_is at q.stored in
-    let i : length (b ++ w) ≤ 67 * places + 36 = omega (arith, length-append b w, rows_short t (benches_of z), benches_fit z, totals_of_short (take n answers)) in
+    let i : length (b ++ w) ≤ 67 * places + 36 = omega (arith, length-append b w, rows_short t (benches_of z), benches_fit z, totals_of_short answers) in
     record {
       fits = omega (arith, s.place, stored_length s);
       short = omega (arith, s.place);

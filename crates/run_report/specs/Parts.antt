@@ -1,7 +1,7 @@
 -- Parts of the report, as the code makes them. This file need not be believed: it serves functions within the crate.
 use Rattle.bench.specs.declared.Bench.{Bench}
 use Rattle.bench.specs.declared.Entry.{Entry}
-use Rattle.std.specs.Prelude.{ℕ, zero, suc, ◌≤◌, cond, List, [], ◌∷◌, ◌++◌, ◌≡◌, eqb, length, take}
+use Rattle.std.specs.Prelude.{ℕ, zero, suc, ◌≤◌, cond, List, [], ◌∷◌, ◌++◌, ◌≡◌, eqb, length}
 use Rattle.published.specs.Rounds.{new_run}
 use Rattle.kinds.specs.Sizes.{benches_of}
 use Rattle.kinds.specs.declared.Size.{Size}
@@ -11,11 +11,10 @@ use Rattle.spelling.specs.Numbers.{ascii, digits}
 use Rattle.spelling.specs.Text.{read_text}
 use Rattle.reports.specs.RunReport.{answers_from, run_after, state_text, value_text}
 
--- the text has n lines, whose answers stand at the front of `answers`, and the tables t and l stand for the run after them
-pub record Played (z : Size) (text : List ℕ) (t : List Bench) (l : List (List Entry)) (n : ℕ) (answers : List ℕ) : Type 0 where
-  pub few : n ≤ length text
-  pub inside : n ≤ length answers
-  pub answers_are : take n answers ≡ answers_from z new_run (read_text (benches_of z) text)
+-- the answers are those of the text's lines, and the tables t and l stand for the run after them
+pub record Played (z : Size) (text : List ℕ) (t : List Bench) (l : List (List Entry)) (answers : List ℕ) : Type 0 where
+  pub few : length answers ≤ length text
+  pub answers_are : answers ≡ answers_from z new_run (read_text (benches_of z) text)
   pub run_is : run_of t l ≡ run_after z text
 
 -- a bench's line, by what is read of the table of benches

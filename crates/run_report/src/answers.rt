@@ -2,18 +2,22 @@
 ghost use Rattle.std.specs.Prelude.{◌≡◌, ◌+◌, ◌*◌, ◌≤◌, leb, length};
 ghost use Rattle.room.specs.Writes.{Holds, Writes};
 ghost use Rattle.kinds.specs.Sizes.{places};
-ghost use Rattle.reports.specs.Reported.{longest};
 ghost use Rattle.reports.specs.RunReport.{answer_line, answer_lines};
 
+use arrayvec::ArrayVec;
 use kinds::AnswerNo;
+use reports::LONGEST;
 use room::Writer;
 use room::decimal::number_length;
 
+// The answers of a text's lines: no text has more lines than bytes.
+pub(crate) type Answers = ArrayVec<AnswerNo, LONGEST>;
+
 // Whether the room holds the lines of the answers and n bytes behind them. No line is longer than 34 bytes, so that they are measured
 // for a short room alone.
-pub(crate) fn room_for(room: &[u8], answers: &[u8], n: usize) -> bool
-    requires { (length answers.now ≤ longest) × (n ≤ 67 * places + 36) }
-    ensures { result ≡ leb (length (answer_lines 1 answers.now) + n) (length room.now) }
+pub(crate) fn room_for(room: &[u8], answers: &Answers, n: usize) -> bool
+    requires { n ≤ 67 * places + 36 }
+    ensures { result ≡ leb (length (answer_lines 1 answers.now.items) + n) (length room.now) }
 {
     if 34 * answers.len() + n <= room.len() {
         return true;
@@ -22,12 +26,11 @@ pub(crate) fn room_for(room: &[u8], answers: &[u8], n: usize) -> bool
 }
 
 // How many bytes the lines of the answers have.
-fn answers_length(answers: &[u8]) -> usize
-    requires { length answers.now ≤ longest }
-    ensures { result ≡ length (answer_lines 1 answers.now) }
+fn answers_length(answers: &Answers) -> usize
+    ensures { result ≡ length (answer_lines 1 answers.now.items) }
 {
     let mut n = 0;
-    for (i, &answer) in answers.iter().enumerate() {
+    for (i, &answer) in answers.as_slice().iter().enumerate() {
         n += answer_length(i as u32 + 1, answer);
     }
     n
@@ -40,12 +43,11 @@ fn answer_length(line: u32, answer: AnswerNo) -> usize
 }
 
 // Writes the lines of the answers.
-pub(crate) fn write_answers(out: &mut Writer, answers: &[u8])
-    requires answers_len_bound { length answers.now ≤ longest }
-    requires answers_in_bounds { Holds out.old (answer_lines 1 answers.now) }
-    ensures { Writes out.old (answer_lines 1 answers.now) out.new }
+pub(crate) fn write_answers(out: &mut Writer, answers: &Answers)
+    requires { Holds out.old (answer_lines 1 answers.now.items) }
+    ensures { Writes out.old (answer_lines 1 answers.now.items) out.new }
 {
-    for (i, &answer) in answers.iter().enumerate() {
+    for (i, &answer) in answers.as_slice().iter().enumerate() {
         write_answer_line(out, i as u32 + 1, answer);
     }
 }

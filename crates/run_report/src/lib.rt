@@ -20,7 +20,6 @@ use kinds::{PLACES, Refusal, Size};
 use playing::play;
 use reports::LONGEST;
 use room::Writer;
-use tables::Tables;
 use totals::refused_in;
 
 // Room for every report of a text that is not too long (`room_enough` of crate `reports`).
@@ -38,22 +37,19 @@ pub fn report(text: &[u8], room: &mut [u8]) -> Result<usize, Refusal>
     if LONGEST < text.len() {
         return Err(Refusal::LongText);
     }
-    let mut tables = Tables::new();
-    let mut kept = [0u8; LONGEST];
-    let lines = play(text, &mut tables, &mut kept, Size::Sixteen);
-    let answers = &kept[..lines];
+    let (tables, answers) = play(text, Size::Sixteen);
     let mut rest = [0u8; REST];
     let mut end = Writer {
         room: &mut rest,
         at: 0,
     };
     write_benches(&mut end, &tables.benches, Size::Sixteen);
-    end.put_totals(lines as u32, refused_in(answers));
-    if !room_for(room, answers, end.at) {
+    end.put_totals(answers.len() as u32, refused_in(&answers));
+    if !room_for(room, &answers, end.at) {
         return Err(Refusal::ShortRoom);
     }
     let mut out = Writer { room, at: 0 };
-    write_answers(&mut out, answers);
+    write_answers(&mut out, &answers);
     out.put_bytes(end.written());
     Ok(out.at)
 }

@@ -1,11 +1,12 @@
 // The number of lines not answered 0.
-ghost use Rattle.std.specs.Prelude.{◌≡◌, ◌≤◌, length};
-ghost use Rattle.reports.specs.Reported.{longest};
+ghost use Rattle.std.specs.Prelude.{◌≡◌};
 ghost use Rattle.reports.specs.RunReport.{refused_in};
 
-pub(crate) fn refused_in(answers: &[u8]) -> u32
-    requires { length answers.now ≤ longest }
-    ensures { result ≡ refused_in answers.now }
+use crate::answers::Answers;
+
+pub(crate) fn refused_in(answers: &Answers) -> u32
+    ensures { result ≡ refused_in answers.now.items }
 {
+    let answers = answers.as_slice();
     answers.iter().filter(|&&answer| answer != 0).count() as u32
 }

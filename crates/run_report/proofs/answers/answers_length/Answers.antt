@@ -11,4 +11,4 @@ pub loop-i-preserved : goal.loop-i-preserved
 loop-i-preserved c = search measured_more
 
 pub returns : goal.returns
-returns c = search measured_all
+returns c = rw (← c.as_slice-answer-items.ensures.value) (measured_all _ _ _ c.loop-i.invariant c.loop-i-test.false)

@@ -3,4 +3,4 @@ use Rattle.run_report.proofs.AnswerLines.{Measured}
 use Rattle.run_report.proofs.answers.answers_length.Given as goal
 
 abbrev pub invariant-loop-i : goal.invariant-loop-i
-invariant-loop-i l = Measured l.answers l.i l.n
+invariant-loop-i l = Measured l.answer-items l.i l.n

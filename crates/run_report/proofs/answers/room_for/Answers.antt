@@ -4,8 +4,8 @@ use Rattle.run_report.proofs.AnswerLines.{lines_fit}
 use Rattle.reports.proofs.RunLines.{lines_short}
 use Rattle.run_report.proofs.answers.room_for.Goals as goal
 
-pub returns-then-answers-n : goal.returns-then-answers-n
-returns-then-answers-n c = search lines_fit
+pub returns-then-len-n : goal.returns-then-len-n
+returns-then-len-n c = lines_fit _ _ _ (rw c.len.ensures.value at c.if-len-n.true)
 
 pub overflow_add-result : goal.overflow_add-result
-overflow_add-result c = omega (arith, c.answers_length.ensures, lines_short c.args.answers.now 1)
+overflow_add-result c = omega (arith, c.answers_length.ensures, lines_short c.args.answers.now.items 1)

@@ -3,10 +3,10 @@ use Rattle.run_report.proofs.AnswerLines.{writing_room, writing_more, writing_al
 use Rattle.run_report.proofs.answers.write_answers.Goals as goal
 
 pub write_answer_line-requires : goal.write_answer_line-requires
-write_answer_line-requires c = search writing_room
+write_answer_line-requires c = writing_room _ _ _ _ c.loop-i.invariant c.loop-i-test.true (rw c.as_slice-answer-items.ensures.value c.requires)
 
 pub loop-i-preserved : goal.loop-i-preserved
 loop-i-preserved c = search writing_more
 
 pub returns : goal.returns
-returns c = search writing_all
+returns c = rw (← c.as_slice-answer-items.ensures.value) (writing_all _ _ _ _ c.loop-i.invariant c.loop-i-test.false)

@@ -3,4 +3,4 @@ use Rattle.run_report.proofs.AnswerLines.{Writing}
 use Rattle.run_report.proofs.answers.write_answers.Given as goal
 
 abbrev pub invariant-loop-i : goal.invariant-loop-i
-invariant-loop-i l = Writing l.initial.out l.answers l.out l.i
+invariant-loop-i l = Writing l.initial.out l.answer-items l.out l.i

@@ -5,5 +5,6 @@ use Rattle.run_report.proofs.totals.refused_in.Goals as goal
 
 pub returns : goal.returns
 returns c =
-    let counted : c.count.result ≡ count_by (λ (a : ℕ). not (eqb a 0)) c.args.answers.now = search rules in
-    counted ∙ refused_counted c.args.answers.now
+    let items = c.args.answers.now.items in
+    let counted : c.count.result ≡ count_by (λ (a : ℕ). not (eqb a 0)) items = search rules in
+    counted ∙ refused_counted items
