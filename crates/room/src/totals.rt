@@ -11,12 +11,11 @@ impl Writer<'_> {
     pub fn put_totals(&mut self, lines: u32, refused: u32)
         ensures { Puts self.old (totals lines refused) self.new }
     {
-        if !self.has_room(16 + number_length(lines) + number_length(refused)) {
-            return;
+        if self.has_room(16 + number_length(lines) + number_length(refused)) {
+            self.put_field(b"lines=", lines);
+            self.put_field(b" refused=", refused);
+            self.put_bytes(b"\n");
         }
-        self.put_field(b"lines=", lines);
-        self.put_field(b" refused=", refused);
-        self.put_bytes(b"\n");
     }
 
     // Writes the line that is printed in a report's place, where the room holds it: the number of the refusal.
@@ -24,10 +23,9 @@ impl Writer<'_> {
         ensures { Puts self.old (refusal_text number) self.new }
     {
         let refused = number as u32;
-        if !self.has_room(9 + number_length(refused)) {
-            return;
+        if self.has_room(9 + number_length(refused)) {
+            self.put_field(b"refused=", refused);
+            self.put_bytes(b"\n");
         }
-        self.put_field(b"refused=", refused);
-        self.put_bytes(b"\n");
     }
 }
