@@ -1,20 +1,16 @@
 -- Keys and lines as the code compares and looks for them. Assumes nothing.
-use Prim.Native.Nat.{ℕ, suc, ◌+◌, ◌-◌, ◌≤◌, ◌<◌}
-use mathlib.Core.Bool.{Bool, true, false, cond, ◌&&◌}
+use Prim.Native.Nat.{ℕ, ◌+◌, ◌-◌, ◌≤◌, ◌<◌}
+use mathlib.Core.Bool.{Bool, true, false, cond}
 use mathlib.Core.List.{List, [], ◌∷◌}
 use mathlib.Core.Logic.{◌⊎◌, ⊎_elim}
 use mathlib.Core.Path.{◌≡◌, refl, sym, ap, ◌∙◌}
 use native.Mathlib.Omega.{arith}
-use lib.Dec.{ltb}
-use borrow.Author.Tests.{ltb-false}
 use Rattle.std.proofs.lemmas.List.Recursion.{is_position_or_len}
 use Rattle.std.proofs.lemmas.List.Sums.{position_or_len_is}
 use Rattle.memchr.specs.Find.{IsFirstByte, is_byte}
-use Rattle.spelling.proofs.Lines.{length_within}
 use lib.Dec.{eqb}
-use lib.ListN.{get_or, length, take, drop, length-append, length-drop}
-use borrow.Author.Tests.{eq-eqb, ne_eqb, eqb-true, eqb-false}
-use Rattle.std.specs.Prelude.{Option, Some, None, unwrap_or, position, slice_range, MatchOption}
+use lib.ListN.{length, take, drop, length-append, length-drop}
+use Rattle.std.specs.Prelude.{Option, Some, None, unwrap_or, slice_range, MatchOption}
 use Rattle.std.specs.List.{position_or_len}
 use Rattle.spelling.proofs.Keys.{prefix_sound}
 use lib.Pointwise.{pointwise}

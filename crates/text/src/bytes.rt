@@ -14,10 +14,10 @@ fn rest(text: &[u8], at: usize) -> &[u8]
 
 // The place behind a key that stands at a place.
 #[inline(always)]
-pub fn behind<const N: usize>(text: &[u8], at: usize, key: &[u8; N]) -> Option<usize>
+pub fn behind(text: &[u8], at: usize, key: &[u8]) -> Option<usize>
     ensures { result ≡ behind key.now text.now at }
 {
-    let end = at.checked_add(N)?;
+    let end = at.checked_add(key.len())?;
     let here = text.get(at..end).unwrap_or(b"");
     if same(here, key) { Some(end) } else { None }
 }

@@ -7,7 +7,7 @@ use crate::bytes;
 use spelling::Found;
 
 // The value of the digit at a place.
-fn digit_at(text: &[u8], at: usize) -> Option<u32>
+pub fn digit_at(text: &[u8], at: usize) -> Option<u32>
     ensures { MatchOption result (10 ≤ digit_at text.now at) (λ d. (d ≡ digit_at text.now at) × (d < 10)) }
 {
     let c = *text.get(at)?;
@@ -53,7 +53,7 @@ pub fn tag_at(text: &[u8], at: usize) -> Found<u32>
 // A key at a place, and the number behind it.
 #[inline(always)]
 #[tactic(auto, unfolding(spelling::specs::Fields::field_at))]
-pub fn field_at<const N: usize>(text: &[u8], at: usize, key: &[u8; N]) -> Found<u32>
+pub fn field_at(text: &[u8], at: usize, key: &[u8]) -> Found<u32>
     ensures { result ≡ field_at key.now text.now at }
 {
     number_at(text, bytes::behind(text, at, key)?)

@@ -6,15 +6,15 @@ use Rattle.text.proofs.Keys.{short_key, here_is, this_key, other_key}
 use Rattle.text.proofs.bytes.behind.Goals as goal
 
 pub returns-in_err-end : goal.returns-in_err-end
-returns-in_err-end g c =
-    c.from_residual.ensures ∙ short_key _ _ _ c.told-key (omega (arith, c.in_err-end.ensures, length-drop c.args.at c.args.text.now))
+returns-in_err-end c =
+    c.from_residual.ensures ∙ short_key _ _ _ refl (omega (arith, c.in_err-end.ensures, length-drop c.args.at c.args.text.now))
 
 pub returns-then-same : goal.returns-then-same
-returns-then-same g c =
+returns-then-same c =
     let end = c.in_ok-end.ensures in
-    this_key _ _ _ c.told-key (here_is _ _ _ c.told-key (λ b. b.now) c.get.result end.1 c.unwrap_or-here.ensures refl c.get.ensures.lookup.0) end.1 c.if-same.ensures
+    this_key _ _ _ refl (here_is _ _ _ refl (λ b. b.now) c.get.result end.1 c.unwrap_or-here.ensures refl c.get.ensures.lookup.0) end.1 c.if-same.ensures
 
 pub returns-else-same : goal.returns-else-same
-returns-else-same g c =
+returns-else-same c =
     let end = c.in_ok-end.ensures in
-    other_key _ _ _ c.told-key (here_is _ _ _ c.told-key (λ b. b.now) c.get.result end.1 c.unwrap_or-here.ensures refl c.get.ensures.lookup.0) end.1 c.if-same.ensures
+    other_key _ _ _ refl (here_is _ _ _ refl (λ b. b.now) c.get.result end.1 c.unwrap_or-here.ensures refl c.get.ensures.lookup.0) end.1 c.if-same.ensures

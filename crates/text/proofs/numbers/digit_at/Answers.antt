@@ -1,5 +1,5 @@
 -- `digit_at` meets its contract. By cases on the byte. Assumes nothing.
-use Rattle.std.proofs.Common.{rules, arith}
+use Rattle.std.proofs.Common.{rules}
 use Rattle.spelling.proofs.Digits.{digit_out, digit_is, digit_not}
 use Rattle.text.proofs.numbers.digit_at.Goals as goal
 

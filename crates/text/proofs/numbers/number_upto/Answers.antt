@@ -1,9 +1,8 @@
 -- `number_upto` meets its contract. The loop keeps `Upto`: the number at the place is the number read from here on. Assumes nothing.
-use Rattle.std.proofs.Common.{rules, arith}
+use Rattle.std.proofs.Common.{arith}
 use mathlib.Core.Path.{◌≡◌, ◌∙◌}
 use Prim.Native.Nat.{◌+◌, ◌*◌}
-use Rattle.spelling.specs.LedgerReading.{as_tag}
-use Rattle.spelling.proofs.Digits.{digit_within, upto_none, upto_first, upto_first_zero, upto_stop, upto_over, upto_large, upto_next}
+use Rattle.spelling.proofs.Digits.{digit_within, upto_first, upto_first_zero, upto_stop, upto_over, upto_large, upto_next}
 use Rattle.text.proofs.numbers.number_upto.Goals as goal
 use Rattle.text.proofs.numbers.number_upto.Goals.{then-number-eq0, else-number-eq0}
 
@@ -14,7 +13,7 @@ pub loop-digit-init : goal.loop-digit-init
 loop-digit-init c =
     let d = c.in_ok-number.ensures in
     elim c.if-number-eq0.branch [
-      then-number-eq0 w ↦ rw w.room-is (upto_first_zero _ _ _ d.0 d.1 w.if-number-eq0.true)
+      | then-number-eq0 w ↦ rw w.room-is (upto_first_zero _ _ _ d.0 d.1 w.if-number-eq0.true)
       | else-number-eq0 w ↦ rw w.room-is (upto_first _ _ _ d.0 d.1 w.if-number-eq0.false)
     ]
 
