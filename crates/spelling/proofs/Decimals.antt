@@ -1,4 +1,4 @@
--- Numbers written: the digits of n, by its parts as the code stores them, and from n / 10 with one digit more. Assumes nothing.
+-- Numbers written: the digits of n, by their places, and from n / 10 with one digit more. Assumes nothing.
 use Prim.Native.Nat.{ℕ, ◌+◌, ◌*◌, ◌/◌, ◌%◌, ◌≤◌, ◌<◌}
 use native.Mathlib.Omega.{arith}
 use mathlib.Core.List.{List, [], ◌∷◌, ◌++◌, append_assoc, append-nil}

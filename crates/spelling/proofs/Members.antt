@@ -1,4 +1,4 @@
--- Members of worlds, one after another, as the code reads, measures and stores them. Assumes nothing.
+-- Members of worlds, one after another, as the code reads them and as they are spelled. Assumes nothing.
 use Prim.Native.Nat.{ℕ, zero, suc, ◌+◌, ◌-◌, ◌*◌, ◌/◌, ◌%◌, ◌^◌, ◌≤◌, ◌<◌}
 use native.Mathlib.Omega.{arith}
 use native.Mathlib.Numerals.{add-one, sub-one}
