@@ -9,7 +9,7 @@ use kinds::{BenchNo, PLACES, Refusal, Size, SlotNo};
 use order::write_tags;
 use senders::{all_closed, row_at};
 pub use senders::{LAST_SLOT, Row, Rows, SenderRow};
-use sets::{is_bench, only, place};
+use sets::{TablePlace, only};
 use sweeps::{skipped, take_out};
 
 mod advancing; // advancing.rt: the cursor
@@ -201,12 +201,8 @@ impl Ledger {
         ensures ok { IfOk result (λ known. (is_bench (benches_of size) sender.0 ≡ true) × (suc known.0 ≡ sender.0) × (known.0 < places) × (row_is known.1 ≡ rows_by self.now sender.0)) }
         ensures err { IfErr result (λ refusal. (is_bench (benches_of size) sender.0 ≡ false) × (refusal ≡ Refusal.NoSuchBench)) }
     {
-        if is_bench(sender, size) {
-            let i = place(sender);
-            Ok((i, row_at(self.cursor.joined, &self.rows, i)))
-        } else {
-            Err(Refusal::NoSuchBench)
-        }
+        let i = TablePlace::of(sender, size)?.index;
+        Ok((i, row_at(self.cursor.joined, &self.rows, i)))
     }
 
     // How many sweeps are held, by the cursor's count: no more than there is room for.

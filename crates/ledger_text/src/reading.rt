@@ -53,8 +53,14 @@ fn rest_at(text: &[u8], at: usize, verb: LedgerVerb, number: u32) -> Found<Ledge
 {
     let sender = BenchNo(number);
     match verb {
-        LedgerVerb::Join => slot_at(text, at).map(|(slot, at)| (LedgerStep::Join(sender, slot), at)),
-        LedgerVerb::Sweep => tag_field_at(text, at).map(|(tag, at)| (LedgerStep::Sweep(sender, tag), at)),
+        LedgerVerb::Join => slot_at(text, at).map(|(slot, at)| (
+            LedgerStep::Join(sender, slot),
+            at,
+        )),
+        LedgerVerb::Sweep => tag_field_at(text, at).map(|(tag, at)| (
+            LedgerStep::Sweep(sender, tag),
+            at,
+        )),
         LedgerVerb::Close => Some((LedgerStep::Close(sender), at)),
         LedgerVerb::End => slot_at(text, at).map(|(slot, at)| (LedgerStep::End(sender, slot), at)),
         LedgerVerb::HandOut => Some((LedgerStep::HandOut(number), at)),

@@ -1,12 +1,12 @@
--- `write_handed`: the count, and the tags where there are any.
-use Rattle.ledger_report.proofs.AnswerLine.{handed_none, others_room, handed_some}
+-- `write_handed`: of a line that wrote no tags nothing is written.
+use Rattle.std.proofs.Common.{◌≡◌, rules, Ok, None}
+use Rattle.ledger_report.proofs.AnswerLine.{nothing_written}
 use Rattle.ledger_report.proofs.answers.write_handed.Goals as goal
 
-pub returns-in_default : goal.returns-in_default
-returns-in_default c = handed_none _ c.put_field.ensures c.requires.1 c.in_default.ensures.cases
+pub returns-in-Ok-None : goal.returns-in-Ok-None
+returns-in-Ok-None c =
+    let none : c.args.answer ≡ Ok None = search rules in
+    rw none (nothing_written c.args.out.now _)
 
-pub write_others-requires : goal.write_others-requires
-write_others-requires c = others_room _ c.put_field.ensures c.requires.1 _ _ c.in-Some.ensures.cases.0 c.put_field-in-Some.ensures
-
-pub returns-in-Some : goal.returns-in-Some
-returns-in-Some c = handed_some _ c.put_field.ensures c.requires.1 _ _ c.in-Some.ensures.cases.0 c.put_field-in-Some.ensures c.write_others.ensures
+pub returns-in-Err : goal.returns-in-Err
+returns-in-Err c = rw c.in-Err.is (nothing_written c.args.out.now _)
