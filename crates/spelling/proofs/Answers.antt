@@ -1,29 +1,19 @@
 -- What is printed of answers: how many bytes it takes, and how the code stores it part by part; and examples of it. Assumes nothing.
 use Prim.Native.Nat.{ℕ, ◌+◌, ◌≤◌}
 use native.Mathlib.Omega.{arith}
-use mathlib.Core.Bool.{Bool, true}
 use mathlib.Core.List.{[], ◌∷◌}
 use mathlib.Core.Path.{◌≡◌, refl}
-use lib.Dec.{leb, eqb}
+use lib.Dec.{eqb}
 use lib.ListN.{length, length-append}
 use Rattle.common.proofs.Tests.{split}
 use Rattle.spelling.specs.Numbers.{ascii, digits, leads}
 use Rattle.spelling.specs.Answers.{answer_text, totals, refusal_of, refusal_text}
-use Rattle.spelling.proofs.Stores.{room_yes}
 use Rattle.spelling.proofs.Decimals.{digits_length}
 
 -- ---- the front of an answer's line
 
 pub answer_length : (k a : ℕ) → length (answer_text k a) ≡ 13 + length (digits k) + length (digits a)
 answer_length k a = simp length-append (omega arith)
-
--- measured by the two numbers
-pub answer_measured : (k a : ℕ) {m n : ℕ} → m ≡ length (digits k) → n ≡ length (digits a) → 13 + m + n ≡ length (answer_text k a)
-answer_measured k a p q = omega (arith, answer_length k a)
-
--- 33 bytes are enough
-pub answer_room : (k a at : ℕ) {m : ℕ} {r : Bool} → r ≡ leb (at + 33) m → r ≡ true → at + length (answer_text k a) ≤ m
-answer_room k a at {m} e h = omega (arith, answer_length k a, digits_length k, digits_length a, room_yes {a = at + 33} {b = m} e h)
 
 -- ---- the last line
 

@@ -1,19 +1,16 @@
 -- Stores one after another: laws of `sets` and `Stored`, and of what fits. Assumes nothing.
-use Prim.Native.Nat.{ℕ, suc, ◌+◌, ◌-◌, ◌≤◌, ◌<◌}
+use Prim.Native.Nat.{ℕ, suc, ◌+◌, ◌≤◌, ◌<◌}
 use native.Mathlib.Omega.{arith}
 use native.Mathlib.Nat.{add-zero}
-use native.Mathlib.Numerals.{add-one}
-use mathlib.Core.Bool.{Bool, true, false, not}
+use mathlib.Core.Bool.{Bool, true, not}
 use mathlib.Core.List.{List, [], ◌∷◌, ◌++◌}
 use mathlib.Core.Path.{◌≡◌, refl, sym, ap, ◌∙◌}
 use lib.Dec.{leb}
-use lib.ListN.{length, get_or, set, length-set, drop, drop_of_length-le}
+use lib.ListN.{length, set}
 use lib.Seq.{sets, length-sets}
 use lib.ListN.{length-append}
-use borrow.Author.Tests.{le-leb, lt-leb, leb-true, leb-false, not-true, not-false}
-use Rattle.common.proofs.Tests.{split}
+use borrow.Author.Tests.{le-leb, lt-leb, leb-true, leb-false, not-true}
 use Rattle.spelling.specs.Stored.{Stored, fits, fitting}
-use Rattle.spelling.proofs.Places.{cut}
 
 -- a run, and another where it ends, are one run
 pub sets_more : (l : List ℕ) (i : ℕ) (u v : List ℕ) → sets (sets l i u) (i + length u) v ≡ sets l i (u ++ v)
@@ -21,32 +18,6 @@ sets_more l i [] v = rw add-zero refl
 sets_more l i (a ∷ u) v =
     let e : i + suc (length u) ≡ suc i + length u = omega arith in
     rw e (sets_more (set l i a) (suc i) u v)
-
--- the first store of what is left of a run
-pub sets_turn : (l : List ℕ) (o : ℕ) (s : List ℕ) (j : ℕ) → j < length s → sets l o (drop j s) ≡ sets (set l o (get_or s j 0)) (o + 1) (drop (j + 1) s)
-sets_turn l o s j h = rw (cut s j h, add-one o) refl
-
-pub sets_end : (l : List ℕ) (o : ℕ) (s : List ℕ) (j : ℕ) → length s ≤ j → sets l o (drop j s) ≡ l
-sets_end l o s j h = rw (drop_of_length-le s h) refl
-
--- the bytes from j on are still to be stored, from o on; l₀ held what was there before
-pub record Storing (l₀ : List ℕ) (at : ℕ) (w : List ℕ) (l : List ℕ) (o j : ℕ) : Type 0 where
-  pub upto : j ≤ length w
-  pub where_to : o ≡ at + j
-  pub long : length l ≡ length l₀
-  pub rest : sets l₀ at w ≡ sets l o (drop j w)
-
-module _ (l₀ : List ℕ) (at : ℕ) (w : List ℕ) where
-  pub storing_none : Storing l₀ at w l₀ at 0
-  storing_none = record { upto = omega arith; where_to = omega arith; long = refl; rest = refl }
-
-  module _ (l : List ℕ) (o j : ℕ) (p : Storing l₀ at w l o j) where
-    pub storing_more : j < length w → Storing l₀ at w (set l o (get_or w j 0)) (o + 1) (j + 1)
-    storing_more h =
-        record { upto = omega arith; where_to = omega (arith, p.where_to); long = simp length-set p.long; rest = p.rest ∙ sets_turn l o w j h }
-
-    pub storing_all : length w ≤ j → Stored l₀ at w o l
-    storing_all h = record { place = omega (arith, p.where_to, p.upto); held = sym (p.rest ∙ sets_end l o w j h) }
 
 -- one writer after another: the room that is left for the second, and what both have stored
 pub stored_length : {l l' : List ℕ} {at next : ℕ} {w : List ℕ} → Stored l at w next l' → length l' ≡ length l
@@ -96,41 +67,11 @@ left_room w rest p h = omega (arith, p.ends, p.long, length-append w rest)
 
 -- ---- room, as the code asks for it
 
-pub room_past : (l : List ℕ) (at n : ℕ) → length l < at → false ≡ leb (at + n) (length l)
-room_past l at n h = sym (lt-leb (at + n) (length l) (omega arith))
-
-pub room_left : (l : List ℕ) (at n : ℕ) → at ≤ length l → leb n (length l - at) ≡ leb (at + n) (length l)
-room_left l at n h = split (leb n (length l - at))
-    (λ e. e ∙ sym (le-leb (at + n) (length l) (omega (arith, leb-true n (length l - at) e))))
-    (λ e. e ∙ sym (lt-leb (at + n) (length l) (omega (arith, leb-false n (length l - at) e))))
-
-pub room_is : {r : Bool} {a b : ℕ} → r ≡ leb a b → not r ≡ false → a ≤ b
-room_is {r} {a} {b} e h = leb-true a b (sym e ∙ not-false r h)
-
 pub room_yes : {r : Bool} {a b : ℕ} → r ≡ leb a b → r ≡ true → a ≤ b
 room_yes {a = a} {b = b} e h = leb-true a b (sym e ∙ h)
 
 pub room_not : {r : Bool} {a b : ℕ} → r ≡ leb a b → not r ≡ true → b < a
 room_not {r} {a} {b} e h = leb-false a b (sym e ∙ not-true r h)
-
--- room for a length n that was measured
-module _ (at : ℕ) (w : List ℕ) (m n : ℕ) (e : n ≡ length w) where
-  pub short_measured : m < at + n → m < at + length w
-  short_measured h = omega arith
-
-  pub room_measured : at + n ≤ m → at + length w ≤ m
-  room_measured h = omega arith
-
--- room for two in a row, the second measured
-module _ (at : ℕ) (w v : List ℕ) (m n : ℕ) where
-  pub short_first : m < at + length w → m < at + length (w ++ v)
-  short_first h = omega (arith, length-append w v)
-
-  pub short_second : n ≡ length v → m < at + length w + n → m < at + length (w ++ v)
-  short_second e h = omega (arith, length-append w v)
-
-  pub room_second : n ≡ length v → at + length w + n ≤ m → at + length (w ++ v) ≤ m
-  room_second e h = omega (arith, length-append w v)
 
 -- with room for w, what fits is w, and without it nothing is stored
 pub fitting_stored : (l : List ℕ) (at : ℕ) (w : List ℕ) {next : ℕ} {l' : List ℕ} → at + length w ≤ length l → Stored l at (fitting l at w) next l' → Stored l at w next l'
@@ -144,16 +85,3 @@ stored_fitting {l = l} {at = at} {w = w} h p = rw (le-leb (at + length w) (lengt
 pub not_fitting : (l : List ℕ) (at : ℕ) (w : List ℕ) → length l < at + length w → Stored l at (fitting l at w) at l
 unfolding fits fitting
 not_fitting l at w h = rw (lt-leb (at + length w) (length l) h) (stored_nil l at)
-
--- ---- what is measured first: n bytes, and whether the room has them
-
-module _ (l : List ℕ) (at n : ℕ) (w : List ℕ) (r : Bool) (is_n : n ≡ length w) (is_r : r ≡ leb (at + n) (length l)) where
-  pub measured_out : not r ≡ true → Stored l at (fitting l at w) at l
-  measured_out h = not_fitting l at w (short_measured at w (length l) n is_n (room_not {a = at + n} {b = length l} is_r h))
-
-  module _ (h : not r ≡ false) where
-    pub measured_in : at + length w ≤ length l
-    measured_in = room_measured at w (length l) n is_n (room_is {a = at + n} {b = length l} is_r h)
-
-    pub measured_stored : {next : ℕ} {l' : List ℕ} → Stored l at w next l' → Stored l at (fitting l at w) next l'
-    measured_stored s = stored_fitting measured_in s
