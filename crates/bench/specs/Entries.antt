@@ -1,4 +1,5 @@
 -- What benches said, by place or by round: the entry at each place of a list, and behind the last one of nothing but zeros.
+-- This file is to be believed: which run two tables are is stated by it.
 use Rattle.std.specs.Prelude.{ℕ, List, get_or}
 use Rattle.bench.specs.declared.Entry.{Entry}
 

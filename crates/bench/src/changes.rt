@@ -1,11 +1,11 @@
-// What a message and a notice make of a bench: in place, as a run's tables have it, and by value.
+// What a message, a notice and a round that it enters make of a bench: in place, as a run's tables have it, and by value.
 
 ghost use Rattle.std.specs.Prelude.{◌≡◌};
 ghost use Rattle.kinds.specs.Sizes.{benches_of};
-ghost use Rattle.bench.specs.Changes.{take_of, take_from, notice_of, notice_from};
+ghost use Rattle.bench.specs.Changes.{take_of, take_from, notice_of, notice_from, in_round};
 
-use crate::Bench;
-use kinds::{BenchNo, Message, Size};
+use crate::{Bench, RUNNING};
+use kinds::{BenchNo, Message, RoundMessage, Size};
 use sets::{TablePlace, only};
 
 impl Bench {
@@ -29,6 +29,17 @@ impl Bench {
             self.notice_at(k);
         }
         self
+    }
+
+    // The bench runs in the round of its message, with the message's value and world.
+    #[tactic(auto, unfolding(crate::specs::Changes::in_round))]
+    pub fn enter(&mut self, said: RoundMessage)
+        ensures { self.new ≡ in_round said.round.0 said.value said.world self.old }
+    {
+        self.state = RUNNING;
+        self.round = said.round;
+        self.value = said.value;
+        self.world = said.world;
     }
 
     // Lines are in order and without gaps, so of a round message its round is the count.

@@ -113,17 +113,13 @@ impl Bench {
         ensures { result ≡ go_on_of (benches_of size) self h.now }
     {
         let Entry { value, world } = self.gather(h, size);
-        let round = RoundNo(round_after(self.round.0));
-        let mut bench = self;
-        bench.state = RUNNING;
-        bench.round = round;
-        bench.value = value;
-        bench.world = world;
         let said = RoundMessage {
-            round,
+            round: RoundNo(round_after(self.round.0)),
             value,
             world,
         };
+        let mut bench = self;
+        bench.enter(said);
         Turned {
             bench,
             answer: Ok(Turn::Went(Message::Round(said))),

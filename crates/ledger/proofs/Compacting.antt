@@ -5,7 +5,7 @@ use mathlib.Core.Bool.{Bool, true, false, not}
 use mathlib.Core.List.{List, [], ◌∷◌, ◌++◌, map}
 use native.Mathlib.Numerals.{add-one}
 use native.Mathlib.Omega.{arith}
-use lib.ListN.{length, take, drop, get_or, set, length-append, length-map, length-take, length-set, take-append-drop}
+use lib.ListN.{length, take, drop, get_or, set, length-append, length-map, length-set, take-append-drop}
 use lib.Seq.{take-suc, length-take-le}
 use Rattle.book.specs.Book.{Sweep, only}
 use Rattle.ledger.specs.Seen.{sweep_is, held_in}
@@ -13,7 +13,7 @@ use Rattle.ledger.specs.Promises.{laid}
 use Rattle.ledger.specs.declared.Sweep as code
 use Rattle.ledger.specs.Promises.{no_sweep}
 use Rattle.ledger.specs.Sweeps.{TakesOut}
-use Rattle.book.proofs.Only.{snoc_yes, snoc_no, only_map, only_rest, only_length}
+use Rattle.book.proofs.Only.{snoc_yes, snoc_no, only_map, only_rest}
 use Rattle.ledger.proofs.Laid.{laid_more, laid_past, laid_front, laid_rest}
 
 -- ---- the pass
@@ -88,8 +88,3 @@ module _ (p : Sweep → Bool) (old : List code.Sweep) (i : ℕ) (room : List cod
         held_is = ap (λ (l : List code.Sweep). map sweep_is (take k l)) inv.room_is ∙ ap (map sweep_is) (laid_front (staying p old i) old k (sym inv.count_is)) ∙ sym m;
         past_is = ap (drop k) inv.room_is ∙ laid_rest (staying p old i) old k (sym inv.count_is);
       }
-
--- no more are left than were held
-pub left_few : (p : Sweep → Bool) (k : ℕ) (room : List code.Sweep) (r : ℕ) (room' : List code.Sweep) → TakesOut p k room r room' → r ≤ k
-unfolding held_in
-left_few p k room r room' y = omega (arith, y.count_is, only_length (λ w. not (p w)) (held_in k room), length-map (take k room) sweep_is, length-take k room)

@@ -38,9 +38,9 @@ use Rattle.senders.proofs.Seating.{rows_joined, rows_open_last, rows_joins, rows
 use Rattle.book.proofs.Outcomes.{positive, after_done, step_ind, step_fails, step_holds}
 use Rattle.ledger.proofs.Refused.{number_positive}
 
--- ---- what is held, in a room that is lent whole
+-- ---- what is held
 
--- no more room are read than there are
+-- no more places are read than there are
 pub held_min : (room : List code.Sweep) (k : ℕ) → length room ≡ room_words → held_in (min k room_words) room ≡ held_in k room
 unfolding held_in
 held_min room k h = split (leb k room_words)
@@ -114,11 +114,11 @@ tells_done n x s x' e d = step_ind n (book_of x) s (λ a. 0 ≡ a.number → Tel
     (λ k f i. absurd (eqb-false k 0 (positive n (book_of x) s k f) (sym i)))
     (λ h i. done n x s x' h (d h)) e
 
--- place i is where the code looks for sender s
-module _ (n : ℕ) (x : Ledger) (s i : ℕ) (bench : is_bench n s ≡ true) (behind : suc i ≡ s) (known : Row) (at : known ≡ rows_of (joined_by x) x.rows (suc i)) where
+-- place i is where the code looks for sender s, and `known` what it finds there
+module _ (n : ℕ) (x : Ledger) (s i : ℕ) (bench : is_bench n s ≡ true) (behind : suc i ≡ s) (known : Row) (at : known ≡ rows_of (joined_by x) x.rows s) where
   pub knows : (book_of x).rows s ≡ known
   unfolding book_of
-  knows = ap (rows_of (joined_by x) x.rows) (sym behind) ∙ sym at
+  knows = sym at
 
   -- a sender that passes a test of those that have joined is in the set
   in_set : (p : Row → Bool) → p book.unknown ≡ false → p (rows_of (joined_by x) x.rows s) ≡ true → has (joined_by x) i ≡ true
@@ -177,7 +177,7 @@ module _ (n : ℕ) (x : Ledger) (s i : ℕ) (bench : is_bench n s ≡ true) (beh
         tells_done n x (end s slot) _ r
         λ h. let c = other_checks 1 _ _ h in
         let low : slot ≤ open_slot known = rw knows at (leb-true slot (open_slot (rows_of (joined_by x) x.rows s)) (first_check 18 _ _ (other_checks 16 _ _ (other_checks 15 _ _ c)))) in
-        let last : open_slot known ≤ suc last_slot = rw at (rows_open_last (joined_by x) x.rows (suc i)) in
+        let last : open_slot known ≤ suc last_slot = rw at (rows_open_last (joined_by x) x.rows s) in
         let back = kept_ended (first_slot known) (open_slot known) slot last (omega arith) in
         let are = rows_stays (joined_by x) x.rows i w there (in_set has_joined refl (first_check 15 _ _ c)) in
         record {

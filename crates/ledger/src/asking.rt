@@ -1,28 +1,14 @@
-// The checks of each step, in their order. Each asks first whether the number is a sender's; a sender's answer then goes by its row.
-ghost use Rattle.std.specs.Prelude.{◌≡◌, true, false, ℕ, suc, ◌≤◌, ◌<◌, length, ltb, OnOk, IfOk, IfErr};
+// The checks of each step, in their order, behind the one whether the number is a sender's.
+ghost use Rattle.std.specs.Prelude.{◌≡◌, true, ℕ, ◌≤◌, ◌<◌, length, ltb, OnOk};
 ghost use Rattle.common.specs.Benches.{is_bench};
 ghost use Rattle.book.specs.Book.{last_slot, Book, join, sweep, close, end, step, is_open, open_slot};
 ghost use Rattle.kinds.specs.Refusals.{answer_of};
-ghost use Rattle.kinds.specs.Sizes.{benches_of, places};
 ghost use Rattle.senders.specs.Rows.{row_is};
 ghost use Rattle.ledger.specs.Seen.{room_words};
 
 use crate::{LAST_SLOT, ROOM};
-use kinds::{BenchNo, Refusal, Size, SlotNo};
+use kinds::{Refusal, SlotNo};
 use senders::Row;
-use sets::{is_bench, place};
-
-// The place of a sender's row.
-pub(crate) fn seat(sender: BenchNo, size: Size) -> Result<usize, Refusal>
-    ensures ok { IfOk result (λ i. (is_bench (benches_of size) sender.0 ≡ true) × (suc i ≡ sender.0) × (i < places)) }
-    ensures err { IfErr result (λ r. (is_bench (benches_of size) sender.0 ≡ false) × (r ≡ Refusal.NoSuchBench)) }
-{
-    if is_bench(sender, size) {
-        Ok(place(sender))
-    } else {
-        Err(Refusal::NoSuchBench)
-    }
-}
 
 pub(crate) fn may_join(row: Row, next: SlotNo, first: SlotNo) -> Result<(), Refusal>
     ensures { (n : ℕ) (b : Book) (s : ℕ) → is_bench n s ≡ true → b.rows s ≡ row_is row → b.next ≡ next.0 → answer_of result ≡ (step n b (join s first.0)).number }

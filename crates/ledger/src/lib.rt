@@ -1,15 +1,15 @@
-// One bench's store of received sweeps, handed out slot by slot. The caller lends it, and each step works in place and says why where it
-// refuses. specs/Book.antt of `book` says what each step does, specs/Seen.antt which book a ledger is, specs/Promises.antt what is promised.
+// One bench's store of received sweeps, handed out slot by slot: `Ledger`, and its steps in place. A step that is refused says why, and changes
+// nothing. specs/Book.antt of `book` says what each step does, specs/Seen.antt which book a ledger is, specs/Promises.antt what is promised.
 
 #![tactic(auto)]
 
 use advancing::advance;
-use asking::{may_close, may_end, may_join, may_sweep, seat};
+use asking::{may_close, may_end, may_join, may_sweep};
 use kinds::{BenchNo, PLACES, Refusal, Size, SlotNo};
 use order::write_tags;
 use senders::{all_closed, row_at};
 pub use senders::{LAST_SLOT, Row, Rows, SenderRow};
-use sets::only;
+use sets::{TablePlace, only};
 use sweeps::{skipped, take_out};
 
 mod advancing; // advancing.rt: the cursor
@@ -24,7 +24,8 @@ pub const LAST_OUT: u32 = 65533;
 pub const ROOM: usize = 1024;
 
 // Where the ledger stands: the next slot to hand out, how many sweeps are held, and the set of the senders that have joined: place i of the
-// set is sender i + 1.
+// set is sender i + 1. The set stands here, and no row is an Option: the promise of each step names the set (`cursor_after`), and a hand-out
+// looks at no row behind the last that has joined.
 #[derive(Clone, Copy)]
 pub struct Cursor {
     pub next: SlotNo,
@@ -50,7 +51,7 @@ impl Cursor {
     }
 }
 
-// A sweep that is held. Its numbers are as narrow as they can be: a room of 8 KiB holds 1,024, and eight are compared at once.
+// A sweep that is held. Its numbers are as narrow as they can be, so that the room is 8 KiB and the slots are soon compared.
 #[derive(Clone, Copy)]
 pub struct Sweep {
     pub sender: u16,
@@ -67,9 +68,10 @@ pub struct Ledger {
 }
 
 impl Ledger {
-    ghost use Rattle.std.specs.Prelude.{◌≡◌, ◌≤◌, true, min, replicate};
+    ghost use Rattle.std.specs.Prelude.{◌≡◌, ◌<◌, ◌≤◌, true, false, suc, min, replicate, IfOk, IfErr};
     ghost use Rattle.book.specs.Book.{last_out, join, close, sweep, end, may_go};
-    ghost use Rattle.kinds.specs.Sizes.{benches_of};
+    ghost use Rattle.common.specs.Benches.{is_bench};
+    ghost use Rattle.kinds.specs.Sizes.{benches_of, places};
     ghost use Rattle.kinds.specs.Refusals.{answer_of};
     ghost use Rattle.senders.specs.Rows.{row_is};
     ghost use Rattle.ledger.specs.Seen.{room_words, rows_by};
@@ -116,8 +118,7 @@ impl Ledger {
     pub fn join(&mut self, sender: BenchNo, first: SlotNo, size: Size) -> Result<(), Refusal>
         ensures { Tells (benches_of size) self.old (join sender.0 first.0) (answer_of result) self.new }
     {
-        let i = seat(sender, size)?;
-        let row = row_at(self.cursor.joined, &self.rows, i);
+        let (i, row) = self.known(sender, size)?;
         may_join(row, self.cursor.next, first)?;
         self.rows[i] = SenderRow::from(Row::Joined { first, open: first });
         self.cursor.joined |= only(i);
@@ -128,8 +129,7 @@ impl Ledger {
     pub fn close(&mut self, sender: BenchNo, size: Size) -> Result<(), Refusal>
         ensures { Tells (benches_of size) self.old (close sender.0) (answer_of result) self.new }
     {
-        let i = seat(sender, size)?;
-        let row = row_at(self.cursor.joined, &self.rows, i);
+        let (i, row) = self.known(sender, size)?;
         may_close(row)?;
         self.rows[i] = SenderRow::from(row.closed());
         Ok(())
@@ -139,8 +139,7 @@ impl Ledger {
     pub fn sweep(&mut self, sender: BenchNo, tag: u32, size: Size) -> Result<(), Refusal>
         ensures { Tells (benches_of size) self.old (sweep sender.0 tag) (answer_of result) self.new }
     {
-        let i = seat(sender, size)?;
-        let row = row_at(self.cursor.joined, &self.rows, i);
+        let (_, row) = self.known(sender, size)?;
         may_sweep(row, self.cursor.held)?;
         self.room[self.cursor.held as usize] = Sweep {
             sender: sender.0 as u16,
@@ -155,8 +154,7 @@ impl Ledger {
     pub fn end(&mut self, sender: BenchNo, slot: SlotNo, size: Size) -> Result<(), Refusal>
         ensures { Tells (benches_of size) self.old (end sender.0 slot.0) (answer_of result) self.new }
     {
-        let i = seat(sender, size)?;
-        let row = row_at(self.cursor.joined, &self.rows, i);
+        let (i, row) = self.known(sender, size)?;
         may_end(row, self.cursor.next, slot)?;
         let held = self.held();
         let left = take_out(&mut self.room, 0, held, |sweep| {
@@ -196,6 +194,15 @@ impl Ledger {
         let left = take_out(&mut self.room, from, held, |sweep| sweep.is_of(next));
         advance(&mut self.cursor, left as u32);
         Ok(count)
+    }
+
+    // The place of a sender's row, and what the row says.
+    fn known(&self, sender: BenchNo, size: Size) -> Result<(usize, Row), Refusal>
+        ensures ok { IfOk result (λ known. (is_bench (benches_of size) sender.0 ≡ true) × (suc known.0 ≡ sender.0) × (known.0 < places) × (row_is known.1 ≡ rows_by self.now sender.0)) }
+        ensures err { IfErr result (λ refusal. (is_bench (benches_of size) sender.0 ≡ false) × (refusal ≡ Refusal.NoSuchBench)) }
+    {
+        let i = TablePlace::of(sender, size)?.index;
+        Ok((i, row_at(self.cursor.joined, &self.rows, i)))
     }
 
     // How many sweeps are held, by the cursor's count: no more than there is room for.

@@ -9,7 +9,6 @@ use spelling::{Found, LedgerStep, LedgerVerb};
 use text::{bytes, numbers};
 
 // The step's name at a place: first those that a script has most of.
-#[tactic(auto, unfolding(spelling::specs::LedgerReading::ledger_verb_at, spelling::specs::LedgerReading::ledger_key_of))]
 fn verb_at(text: &[u8], at: usize) -> Found<LedgerVerb>
     ensures { result ≡ ledger_verb_at text.now at }
 {
@@ -31,7 +30,7 @@ fn verb_at(text: &[u8], at: usize) -> Found<LedgerVerb>
     None
 }
 
-// What follows the sender of a step with a slot: the slot.
+// The slot at a place, with its key.
 fn slot_at(text: &[u8], at: usize) -> Found<SlotNo>
     ensures { result ≡ option_map (λ (n, end). (record { 0 = n }, end)) (field_at (ascii " slot=") text.now at) }
 {
@@ -39,13 +38,12 @@ fn slot_at(text: &[u8], at: usize) -> Found<SlotNo>
     Some((SlotNo(slot), at))
 }
 
-// What follows the sender of a sweep: the tag.
+// The tag at a place, with its key.
 #[tactic(auto, unfolding(spelling::specs::LedgerReading::tag_field_at))]
 fn tag_field_at(text: &[u8], at: usize) -> Found<u32>
     ensures { result ≡ tag_field_at text.now at }
 {
-    let at = bytes::behind(text, at, b" tag=")?;
-    numbers::tag_at(text, at)
+    numbers::tag_at(text, bytes::behind(text, at, b" tag=")?)
 }
 
 // What follows the first number of a step.
@@ -55,8 +53,8 @@ fn rest_at(text: &[u8], at: usize, verb: LedgerVerb, number: u32) -> Found<Ledge
 {
     let sender = BenchNo(number);
     match verb {
-        LedgerVerb::Join => slot_at(text, at).map(|(first, at)| (
-            LedgerStep::Join(sender, first),
+        LedgerVerb::Join => slot_at(text, at).map(|(slot, at)| (
+            LedgerStep::Join(sender, slot),
             at,
         )),
         LedgerVerb::Sweep => tag_field_at(text, at).map(|(tag, at)| (

@@ -20,10 +20,9 @@ impl Writer<'_> {
         ensures { Puts self.old (answer_text line answer) self.new }
     {
         let number = answer as u32;
-        if !self.has_room_for_answer(line, number) {
-            return;
+        if self.has_room_for_answer(line, number) {
+            self.store_field(b"line=", line);
+            self.store_field(b" answer=", number);
         }
-        self.store_field(b"line=", line);
-        self.store_field(b" answer=", number);
     }
 }

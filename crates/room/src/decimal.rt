@@ -64,10 +64,9 @@ impl Writer<'_> {
     pub fn put_number(&mut self, n: u32)
         ensures { Puts self.old (digits n) self.new }
     {
-        if !self.has_room(number_length(n)) {
-            return;
+        if self.has_room(number_length(n)) {
+            self.store_number(n);
         }
-        self.store_number(n);
     }
 
     // A number has at most 10 digits, so that it is measured in a short room alone.
@@ -81,9 +80,8 @@ impl Writer<'_> {
     pub fn put_field(&mut self, key: &[u8], n: u32)
         ensures { Puts self.old (key.now ++ digits n) self.new }
     {
-        if !self.has_room_for_field(key, n) {
-            return;
+        if self.has_room_for_field(key, n) {
+            self.store_field(key, n);
         }
-        self.store_field(key, n);
     }
 }

@@ -5,7 +5,7 @@
 
 mod answer; // answer.rt: a line's number and its answer
 pub mod decimal; // decimal.rt: numbers
-pub mod totals; // totals.rt: a report's last line
+mod totals; // totals.rt: a report's last line
 mod writer; // writer.rt: the room, the place in it, and fixed byte strings
 
 pub use writer::Writer;

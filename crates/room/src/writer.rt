@@ -36,9 +36,8 @@ impl Writer<'_> {
     pub fn put_bytes(&mut self, bytes: &[u8])
         ensures { Puts self.old bytes.now self.new }
     {
-        if !self.has_room(bytes.len()) {
-            return;
+        if self.has_room(bytes.len()) {
+            self.store_bytes(bytes);
         }
-        self.store_bytes(bytes);
     }
 }

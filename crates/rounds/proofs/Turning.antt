@@ -19,6 +19,7 @@ use Rattle.bench.specs.Turns.{message_of, go_on_of, turn_of}
 use Rattle.bench.proofs.Answers.{next_fits, turn_ind}
 use Rattle.tables.specs.Rows.{rows}
 use Rattle.tables.specs.Lines.{heard_of}
+use Rattle.tables.specs.declared.Tables.{Tables}
 use Rattle.tables.specs.Steps.{Acts, acted, sent_of, turn_by, turn_on, turn_at, at_bench, table_step}
 use Rattle.rounds.specs.Sending.{HasRoom}
 
@@ -39,18 +40,18 @@ module _ (n : ℕ) (t : List Bench) (l : List (List Entry)) (k : ℕ) (h : Heard
   unfolding turn_at turn_on
   turned = rw (← is_h, ← is_r) refl
 
-  sends_it : (a : Turn) (t' : List Bench) (l' : List (List Entry)) → Acts 0 t' l' (acted (sent_of t l k r.bench (message_of a))) → Acts 0 t' l' (turn_by t l k r.bench (Ok a))
+  sends_it : (a : Turn) → turn_by t l k r.bench (Ok a) ≡ acted (sent_of t l k r.bench (message_of a))
   unfolding turn_by
-  sends_it (Decided v m) t' l' p = p
-  sends_it (Went m) t' l' p = p
+  sends_it (Decided v m) = refl
+  sends_it (Went m) = refl
 
   module _ (b : ℕ) (known : (is_bench n b ≡ true) × (k ≡ b - 1)) where
     whole : table_step n t l (turn b) ≡ turn_at n t l k
     unfolding table_step at_bench
     whole = rw (known.0, known.1) refl
 
-    pub turn_done : (a : Turn) (t' : List Bench) (l' : List (List Entry)) → r.answer ≡ Ok a → Acts 0 t' l' (acted (sent_of t l k r.bench (message_of a))) → Acts 0 t' l' (table_step n t l (turn b))
-    turn_done a t' l' e d = rw (whole, turned) (rw e (sends_it a t' l' d))
+    pub turn_done : (a : Turn) (x : Tables) → r.answer ≡ Ok a → x ≡ sent_of t l k r.bench (message_of a) → Acts 0 x.benches x.logs (table_step n t l (turn b))
+    turn_done a x e d = rw (d, whole, turned) (rw (e, sends_it a) (record { answer = refl; benches = refl; logs = refl }))
 
     pub turn_refused : (x : Refusal) (q : Result (Unit {0}) Refusal) → r.answer ≡ Err x → q ≡ Err x → Acts (answer_of q) t l (table_step n t l (turn b))
     unfolding turn_by

@@ -1,4 +1,4 @@
--- The lines of the answers: how many bytes they have, and how they are stored one after another. Assumes nothing.
+-- The lines of the answers: how many bytes they have, and how they are written one after another. Assumes nothing.
 use Prim.Native.Nat.{ℕ, suc, ◌+◌, ◌*◌, ◌≤◌, ◌<◌}
 use native.Mathlib.Omega.{arith}
 use native.Mathlib.Nat.{add-zero}
@@ -13,7 +13,7 @@ use Rattle.spelling.specs.Numbers.{digits}
 use Rattle.spelling.proofs.Places.{cut}
 use Rattle.room.specs.declared.writer.Writer.{Writer}
 use Rattle.room.specs.Writes.{Writes, Holds}
-use Rattle.room.proofs.Writers.{Going, going_start, going_step, going_holds, going_end}
+use Rattle.room.proofs.Writers.{Going, going_step, going_holds, going_end}
 use Rattle.reports.specs.RunReport.{answer_line, answer_lines}
 use Rattle.reports.proofs.RunLines.{line_length_lem, line_short, lines_short}
 
@@ -38,9 +38,6 @@ module _ (l : List ℕ) (k i : ℕ) where
 module _ (l : List ℕ) (n m : ℕ) where
   pub lines_fit : 34 * length l + n ≤ m → true ≡ leb (length (answer_lines 1 l) + n) m
   lines_fit h = sym (le-leb (length (answer_lines 1 l) + n) m (omega (arith, lines_short l 1)))
-
-  pub lines_counted : {k : ℕ} → k ≡ length (answer_lines 1 l) → leb (k + n) m ≡ leb (length (answer_lines 1 l) + n) m
-  lines_counted e = ap (λ (z : ℕ). leb (z + n) m) e
 
 -- ---- measured line by line
 
@@ -71,9 +68,6 @@ abbrev pub Writing : Writer → List ℕ → Writer → ℕ → Type 0
 Writing first l out i = Going first (answer_lines 1 l) out (answer_lines (i + 1) (drop i l))
 
 module _ (first : Writer) (l : List ℕ) where
-  pub writing_none : Writing first l first 0
-  writing_none = going_start first (answer_lines 1 l)
-
   module _ (out : Writer) (i : ℕ) (p : Writing first l out i) where
     more : i < length l → Going first (answer_lines 1 l) out (answer_line (i + 1) (get_or l i 0) ++ answer_lines (i + 1 + 1) (drop (i + 1) l))
     more h = rw (lines_more l (i + 1) i h, ← add-one (i + 1)) at p

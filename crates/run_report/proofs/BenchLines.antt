@@ -1,4 +1,4 @@
--- The lines of the benches, by what is read of the table: those of the run that the tables stand for, and how they are stored. Assumes nothing.
+-- The lines of the benches, by what is read of the table: those of the run that the tables stand for, and how they are written. Assumes nothing.
 use Rattle.bench.specs.declared.Bench.{Bench}
 use Rattle.bench.specs.declared.Entry.{Entry}
 use Prim.Native.Nat.{ℕ, zero, suc, ◌+◌, ◌-◌, ◌*◌, ◌≤◌, ◌<◌}
@@ -72,7 +72,7 @@ unfolding row_lines
 rows_short t zero = omega arith
 rows_short t (suc n) = omega (arith, length-append (row_lines t n) (row_line t (suc n)), rows_short t n, row_short t (suc n))
 
--- ---- a line stored
+-- ---- a line written
 
 -- whoever has none of the other states has failed
 pub above_failed : (w : ℕ) → (w ≡ 0 → ⊥) → (w ≡ 1 → ⊥) → (w ≡ 2 → ⊥) → (w ≡ 3 → ⊥) → (w ≡ 4 → ⊥) → state_of w ≡ failed

@@ -1,5 +1,5 @@
 // How a world is spelled: read by world_at, written by write_world. Nothing else knows it.
-ghost use Rattle.std.specs.Prelude.{◌≡◌};
+ghost use Rattle.std.specs.Prelude.{◌≡◌, ◌==◌, ◌++◌, ◌+◌, ◌≤◌, length, get_or};
 ghost use Rattle.kinds.specs.Sizes.{benches_of};
 ghost use Rattle.spelling.specs.Spelling.{world_text, is_world};
 ghost use Rattle.room.specs.Writes.{Holds, Writes};
@@ -9,7 +9,7 @@ ghost use Rattle.spelling.specs.Reading.{member_at, world_at};
 use kinds::Size;
 use room::Writer;
 use spelling::Found;
-use text::{bytes, numbers};
+use text::numbers;
 
 // A member of a world at a place: a bench above `last`.
 fn member_at(text: &[u8], at: usize, last: u32, size: Size) -> Found<u32>
@@ -23,6 +23,13 @@ fn member_at(text: &[u8], at: usize, last: u32, size: Size) -> Found<u32>
     }
 }
 
+// Whether a comma stands at a place.
+fn comma_at(text: &[u8], at: usize) -> bool
+    ensures { result ≡ (get_or text.now at 0 == 44) }
+{
+    text.get(at).is_some_and(|c| *c == b',')
+}
+
 // The world at a place: benches, strictly rising, joined by commas, at least one.
 pub(crate) fn world_at(text: &[u8], from: usize, size: Size) -> Found<u32>
     ensures { result ≡ world_at (benches_of size) text.now from }
@@ -31,11 +38,11 @@ pub(crate) fn world_at(text: &[u8], from: usize, size: Size) -> Found<u32>
     loop {
         let (bench, next) = member_at(text, at, last, size)?;
         world += sets::only(bench as usize - 1);
-        let Some(further) = bytes::behind(text, next, b",") else {
+        if !comma_at(text, next) {
             return Some((world, next));
-        };
+        }
         last = bench;
-        at = further;
+        at = next + 1;
     }
 }
 

@@ -29,4 +29,4 @@ open_until (Some e) f o h = h
 
 pub open_last : (w : SenderRow) → open_slot (row_in w) ≤ suc last_slot
 unfolding row_in
-open_last w = open_until w.end w.first.0 (slot_in w.opened.0) (omega arith)
+open_last w = open_until w.end w.first.0 (slot_in w.«open».0) (omega arith)

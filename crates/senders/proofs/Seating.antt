@@ -2,20 +2,19 @@
 -- Assumes nothing.
 use mathlib.Core.Path.{◌≡◌, refl, ap, sym, ◌∙◌, fun_ext}
 use Prim.Native.Nat.{ℕ, zero, suc, ◌^◌, ◌≤◌, ◌<◌}
-use mathlib.Core.Bool.{Bool, true, false, not, ◌&&◌, and-false, false≢true}
+use mathlib.Core.Bool.{Bool, true, false, ◌&&◌, and-false, false≢true}
 use mathlib.Core.List.{List}
 use native.Mathlib.Omega.{arith}
 use lib.Bits.{bit_or}
 use lib.ListN.{length, get_or, set, length-set}
 use lib.Seq.{get_or-set_same, get_or-set_other}
 use lib.Dec.{ltb}
-use borrow.Author.Tests.{lt-ltb, le-ltb, not-true, not-false}
+use borrow.Author.Tests.{lt-ltb, le-ltb}
 use Rattle.common.specs.Places.{has}
 use Rattle.common.specs.Updates.{put}
 use Rattle.common.proofs.Tests.{split, cond_ind}
 use Rattle.common.proofs.Sets.{has_none, joined_same, joined_other}
 use Rattle.common.proofs.Updates.{put_ind}
-use Rattle.kinds.specs.Sizes.{places}
 use Rattle.book.specs.Book.{last_slot, Row, unknown, open_slot}
 use Rattle.senders.specs.declared.SenderRow.{SenderRow}
 use Rattle.senders.specs.Kept.{row_in, blank, rows_of}

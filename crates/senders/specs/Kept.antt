@@ -13,18 +13,18 @@ row_until (Some e) f o = ended f o e.0
 
 -- of a sender that has joined
 unfoldable pub row_in : SenderRow → Row
-row_in w = row_until w.end w.first.0 (slot_in w.opened.0)
+row_in w = row_until w.end w.first.0 (slot_in w.«open».0)
 
 abbrev pub slot_no : ℕ → SlotNo
 slot_no k = record { 0 = k }
 
 abbrev pub blank : SenderRow
-blank = record { first = slot_no 0; opened = slot_no 0; end = None }
+blank = record { first = slot_no 0; «open» = slot_no 0; end = None }
 
 unfoldable pub kept_of : Row → SenderRow
 kept_of unknown = blank
-kept_of (joined f o) = record { first = slot_no f; opened = slot_no o; end = None }
-kept_of (ended f o e) = record { first = slot_no f; opened = slot_no o; end = Some (slot_no (slot_in e)) }
+kept_of (joined f o) = record { first = slot_no f; «open» = slot_no o; end = None }
+kept_of (ended f o e) = record { first = slot_no f; «open» = slot_no o; end = Some (slot_no (slot_in e)) }
 
 -- row i is sender i + 1, if that is in the set of those that have joined; places that the table does not have mean nothing in the set
 unfoldable pub rows_of : ℕ → List SenderRow → ℕ → Row

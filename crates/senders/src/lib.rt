@@ -19,7 +19,7 @@ pub const LAST_SLOT: u32 = 65534;
 #[derive(Clone, Copy)]
 pub struct SenderRow {
     pub first: SlotNo,
-    pub opened: SlotNo,
+    pub open: SlotNo,
     pub end: Option<SlotNo>,
 }
 
@@ -57,7 +57,7 @@ impl From<SenderRow> for Row {
 
     fn from(kept: SenderRow) -> Row {
         let first = kept.first;
-        let open = slot_in(kept.opened);
+        let open = slot_in(kept.open);
         match kept.end {
             None => Row::Joined { first, open },
             Some(end) => Row::Ended { first, open, end },
@@ -76,17 +76,17 @@ impl From<Row> for SenderRow {
         match row {
             Row::Unknown => SenderRow {
                 first: SlotNo(0),
-                opened: SlotNo(0),
+                open: SlotNo(0),
                 end: None,
             },
             Row::Joined { first, open } => SenderRow {
                 first,
-                opened: open,
+                open,
                 end: None,
             },
             Row::Ended { first, open, end } => SenderRow {
                 first,
-                opened: open,
+                open,
                 end: Some(slot_in(end)),
             },
         }

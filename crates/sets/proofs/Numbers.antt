@@ -1,9 +1,9 @@
 -- Laws of bench numbers and their places: 1 to n are benches. Assumes nothing.
-use mathlib.Core.Path.{◌≡◌, refl, sym, ◌∙◌}
-use mathlib.Core.Bool.{Bool, true, false, not}
+use mathlib.Core.Path.{◌≡◌, refl, ◌∙◌}
+use mathlib.Core.Bool.{true}
 use Prim.Native.Nat.{ℕ, suc, ◌-◌, ◌<◌, ◌≤◌}
 use native.Mathlib.Omega.{arith}
-use borrow.Author.Tests.{le-leb, not-false}
+use borrow.Author.Tests.{le-leb}
 use Rattle.common.specs.Benches.{is_bench}
 use Rattle.common.specs.Places.{place_of}
 use Rattle.common.proofs.Benches.{bench_in}
@@ -19,10 +19,6 @@ module _ (n : ℕ) where
   pub bench_place : (f : ℕ) → is_bench n f ≡ true → f - 1 < n
   bench_place f e = omega (arith, bench_in n f e)
 
-  -- what the code has found of a number
-  pub known : (f : ℕ) (q : Bool) → q ≡ is_bench n f → not q ≡ false → is_bench n f ≡ true
-  known f q is_q e = sym is_q ∙ not-false q e
-
 -- a bench among n has a place in every table of m places or more
 pub bench_wider : (n m : ℕ) → n ≤ m → (f : ℕ) → is_bench n f ≡ true → is_bench m f ≡ true
 unfolding is_bench
@@ -32,10 +28,7 @@ bench_wider n m h f e = let i = bench_in n f e in rw (le-leb 1 f i.0, le-leb f m
 pub bench_placed : (z : Size) (f : ℕ) → is_bench (benches_of z) f ≡ true → f - 1 < places
 bench_placed z f e = omega (arith, bench_place (benches_of z) f e, benches_fit z)
 
--- ---- the place, as the code finds it
-
-module _ (m f : ℕ) where
-  -- a bench stands right behind its place
-  pub place_next : (r : ℕ) → r ≡ place_of m f → is_bench m f ≡ true → suc r ≡ f
-  unfolding place_of
-  place_next r e h = let p : r ≡ f - 1 = e ∙ rw h refl in omega (arith, bench_first m f h)
+-- a bench stands right behind its place
+pub place_next : (m f r : ℕ) → r ≡ place_of m f → is_bench m f ≡ true → suc r ≡ f
+unfolding place_of
+place_next m f r e h = let p : r ≡ f - 1 = e ∙ rw h refl in omega (arith, bench_first m f h)

@@ -3,23 +3,23 @@ use Prim.Native.Nat.{ℕ, zero, suc, ◌+◌, ◌-◌, ◌*◌, ◌/◌, ◌%◌
 use native.Mathlib.Omega.{arith}
 use native.Mathlib.Nat.{zero-add}
 use native.Mathlib.Numerals.{add-one, sub-one}
-use mathlib.Core.Bool.{cond}
+use mathlib.Core.Bool.{Bool, true, false, cond}
 use mathlib.Core.List.{List, [], ◌∷◌, ◌++◌, append_assoc}
 use mathlib.Core.Logic.{⊎_elim}
 use mathlib.Core.Path.{◌≡◌, refl, sym, ap, ◌∙◌}
 use lib.Dec.{eqb, lit<}
-use lib.ListN.{length, get_or, drop, length-append}
+use lib.ListN.{length, get_or, length-append}
 use lib.Pow.{pow-add, pow_mono}
-use borrow.Author.Tests.{lt-ltb, le-ltb, le-leb, lt-leb, eq-eqb, ne_eqb}
+use borrow.Author.Tests.{lt-ltb, le-ltb, le-leb, lt-leb, eq-eqb, ne_eqb, eqb-true}
 use Rattle.std.specs.Prelude.{Some, None}
-use Rattle.spelling.proofs.Keys.{behind_own, behind_spans, same_found, none_found}
+use Rattle.spelling.proofs.Keys.{same_found, none_found}
 use Rattle.spelling.specs.Numbers.{digits}
 use Rattle.spelling.specs.Spelling.{members, world_text}
 use Rattle.spelling.specs.Stored.{Stored}
 use Rattle.spelling.specs.Storing.{sep_at}
-use Rattle.spelling.specs.Fields.{Found, behind, number_at}
+use Rattle.spelling.specs.Fields.{Found, number_at}
 use Rattle.spelling.specs.Reading.{bit_of, member_at, members_at, world_at}
-use Rattle.spelling.proofs.Places.{le_or_lt, here, cut, byte_within}
+use Rattle.spelling.proofs.Places.{le_or_lt, byte_within}
 use Rattle.spelling.proofs.Decimals.{digits_length}
 use Rattle.spelling.proofs.Stores.{Left, left_start, left_step, left_end, left_room}
 
@@ -73,17 +73,6 @@ bit_more : (world last b : ℕ) → world < 2 ^ last → last < b → world + bi
 bit_more world last zero h k = absurd (omega arith)
 bit_more world last (suc b) h k = let below : last ≤ b = omega arith in rw sub-one (omega (arith, pow_next b, pow_mono below))
 
--- ---- a comma
-
-comma_is : (text : List ℕ) (at : ℕ) {next : ℕ} → behind (44 ∷ []) text at ≡ Some next → (get_or text at 0 ≡ 44) × (next ≡ at + 1)
-comma_is text at e = let s = behind_spans (44 ∷ []) text at e in (here text at s.stands, s.place)
-
-comma_not : (text : List ℕ) (at : ℕ) → behind (44 ∷ []) text at ≡ None → get_or text at 0 ≡ 44 → ⊥
-comma_not text at e h =
-    let within : at < length text = omega (arith, byte_within text at (omega arith)) in
-    let stands : drop at text ≡ (44 ∷ []) ++ drop (at + 1) text = cut text at within ∙ ap (λ (c : ℕ). c ∷ drop (at + 1) text) h in
-    none_found (sym e ∙ behind_own (44 ∷ []) text at (drop (at + 1) text) stands)
-
 -- a bench's bit as a word of 32 bits has it
 pub word_bit : (b : ℕ) {bit : ℕ} → bit ≡ 2 ^ (b - 1) % 2 ^ 32 → 0 < b → b ≤ 32 → bit ≡ bit_of b
 word_bit b e pos top =
@@ -132,19 +121,17 @@ module _ (limit : ℕ) (text : List ℕ) (from at last world : ℕ) (p : Listed 
       pub listed_fits : world + bit < 2 ^ 32
       listed_fits = let m = listed_member in let c : b ≤ 32 = omega (arith, m.most) in omega (arith, listed_under, pow_mono c)
 
-      pub listed_last : None ≡ behind (44 ∷ []) text next → Some (world + bit, next) ≡ world_at limit text from
-      listed_last q = sym (follows ∙ rw (ne_eqb (get_or text next 0) 44 (comma_not text next (sym q)), s) refl)
+      module _ {comma : Bool} (t : comma ≡ eqb (get_or text next 0) 44) where
+        pub listed_last : comma ≡ false → Some (world + bit, next) ≡ world_at limit text from
+        listed_last q = sym (follows ∙ rw (sym t ∙ q, s) refl)
 
-      pub listed_more : {further : ℕ} → Some further ≡ behind (44 ∷ []) text next → Listed limit text from further b (world + bit)
-      listed_more {further} q =
-          let c = comma_is text next (sym q) in
-          let m = listed_member in
-          record {
-            room = p.room - 1;
-            enough = omega (arith, p.enough, m.above);
-            under = listed_under;
-            rest = rw c.1 (follows ∙ rw (eq-eqb (get_or text next 0) 44 c.0, s) refl);
-          }
+        pub listed_more : comma ≡ true → Listed limit text from (next + 1) b (world + bit)
+        listed_more q =
+            let m = listed_member in
+            record { room = p.room - 1; enough = omega (arith, p.enough, m.above); under = listed_under; rest = follows ∙ rw (sym t ∙ q, s) refl }
+
+        pub listed_next : comma ≡ true → next < length text
+        listed_next q = let c = eqb-true (get_or text next 0) 44 (sym t ∙ q) in omega (arith, byte_within text next (omega arith))
 
 -- ---- members written
 

@@ -10,11 +10,13 @@ use mathlib.Core.Path.{◌≡◌, refl, sym, ap, ◌∙◌}
 use lib.Dec.{leb}
 use lib.ListN.{length, get_or, drop, length-append}
 use borrow.Author.Tests.{le-leb, lt-leb}
-use Rattle.std.specs.Prelude.{Some}
+use Rattle.std.specs.Prelude.{Some, None}
 use Rattle.common.proofs.Tests.{split}
 use Rattle.spelling.proofs.Keys.{same_found, none_found}
 use Rattle.spelling.specs.Numbers.{digits}
-use Rattle.spelling.specs.Fields.{digit_of, digit_at, more_digits, number_upto, number_at, below}
+use Rattle.spelling.specs.LedgerSpelling.{most_tag}
+use Rattle.spelling.specs.LedgerReading.{as_tag}
+use Rattle.spelling.specs.Fields.{Found, digit_of, digit_at, more_digits, number_upto, number_at, below}
 use Rattle.spelling.proofs.Places.{le_or_lt, here, past, cut, Spans, spans_then}
 use Rattle.spelling.proofs.Digits.{more_stop, more_none, more_step, upto_none, upto_zero, upto_more, first_none, first_more, digit_within, below_turn, below_most}
 use Rattle.spelling.proofs.Decimals.{digits_small, digits_snoc, digits_large, small_length}
@@ -142,3 +144,11 @@ upto_sound more text at n next nine got =
 pub number_sound : (text : List ℕ) (at n next : ℕ) → number_at text at ≡ Some (n, next) → NumberIs 5 text at n next
 unfolding number_at
 number_sound text at n next got = upto_sound 4 text at n next (omega arith) got
+
+-- a number of up to 5 digits is no larger than a tag can be
+pub number_is_tag : (text : List ℕ) (at : ℕ) → as_tag (number_at text at) ≡ number_at text at
+number_is_tag text at = go (number_at text at) refl
+  where
+    go : (n : Found ℕ) → number_at text at ≡ n → as_tag n ≡ n
+    go None e = refl
+    go (Some (v, next)) e = let r = number_sound text at v next e in rw (le-leb v most_tag (omega (arith, r.small))) refl

@@ -1,5 +1,5 @@
 -- A check on the tables beside the published check of the same number, and the checks of bench numbers that every step begins with.
--- A step's proof is then its list of checks, in document 01's order. Assumes nothing.
+-- A step's proof is then its list of checks, in their order. Assumes nothing.
 use Rattle.bench.specs.declared.Entry.{Entry}
 use Rattle.bench.specs.declared.Bench.{Bench}
 use mathlib.Core.Path.{◌≡◌, refl}

@@ -1,4 +1,4 @@
--- How far the rounds have come is what the rows say: each bench's count of round messages is the last round that it has sent. So, by W9, a log has room for
+-- How far the rounds have come is what the rows say: each bench's count of round messages is the last round that it has sent. So a log has room for
 -- all rounds of sound tables. Assumes nothing.
 use Rattle.bench.specs.declared.Bench.{Bench}
 use Rattle.bench.specs.declared.Entry.{Entry}

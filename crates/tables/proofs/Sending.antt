@@ -55,11 +55,11 @@ module _ (log : List Entry) (q v w : ℕ) (size : length log ≡ depth) (h : q <
 
 -- bench b in state st, with `chose` as given
 unfoldable pub with_state : ℕ → ℕ → Bench → Bench
-with_state st chose b = record { state = st; round = b.round; value = b.value; world = b.world; outs = b.outs; noticed = b.noticed; sent = b.sent; silent = b.silent; chose = chose; taken = b.taken }
+with_state st chose b = record b { state = st; chose = chose }
 
 -- the published bench x in a state and with a decision
 unfoldable pub with_decision : published.State → published.Decision → published.Bench → published.Bench
-with_decision st d x = record { state = st; round = x.round; value = x.value; world = x.world; sent = x.sent; taken = x.taken; noticed = x.noticed; decision = d }
+with_decision st d x = record x { state = st; decision = d }
 
 module _ (N : ℕ) (t : List Bench) (l : List (List Entry)) (s : Sound N t l) (k : ℕ) (h : k < N) where
   abbrev b : Bench

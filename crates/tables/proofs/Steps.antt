@@ -1,4 +1,4 @@
--- Each of the seven steps on sound tables is the published step: its checks in document 01's order, then its change. Assumes nothing.
+-- Each of the seven steps on sound tables is the published step: its checks in their order, then its change. Assumes nothing.
 use Rattle.bench.specs.declared.Entry.{Entry}
 use Rattle.bench.specs.declared.Bench.{Bench}
 use mathlib.Core.Path.{◌≡◌, refl, ap, ◌∙◌}

@@ -65,7 +65,7 @@ tables_meet = empty_meet
 pub size_meets : (z : Size) (l : List Step) → Meets (benches_of z) empty_tables l new_run
 size_meets z = tables_meet (benches_of z) (benches_fit z)
 
--- ---- demand 3: after any list of steps from the empty tables
+-- ---- after any list of steps from the empty tables
 
 module _ (N : ℕ) (fits : N ≤ places) (l : List Step) where
   decided : (k : ℕ) → Chose N l k → (run_from N new_run l (suc k)).decision ≡ chosen (value N l k)
@@ -89,7 +89,7 @@ module _ (N : ℕ) (fits : N ≤ places) (l : List Step) where
       let p = published.not_above_own N l (suc k) (value N l k) (decided k c) in
       (p.own_value, p.own_world, accepted_start N (suc k) p.own_value p.own_world l p.own_message, p.not_above)
 
--- ---- W8: how long after the last lid
+-- ---- how long after the last lid
 
 -- Where every row says that its bench has last sent round r or an earlier one, r being at least 1, and no fail step is done from there on, no row ever says a round above r + 2.
 pub two_more : (N : ℕ) → N ≤ places → (l : List Step) (r : ℕ) → 1 ≤ r → ((k : ℕ) → last_sent N l k ≤ r)
@@ -99,7 +99,7 @@ two_more N fits l r pos below m nf =
     above_rows after.benches after.logs (r + 2) (rw (← (tables_meet N fits (l ++ m)).run_is)
     (published.two_more N l r pos (rw (tables_meet N fits l).run_is (rows_above before.benches before.logs r below)) m nf))
 
--- ---- W9: how far rounds come
+-- ---- how far rounds come
 
 -- No row ever says a round above 2 N + 1, so a log has room for all that is sent.
 pub rounds_end : (N : ℕ) → N ≤ places → (l : List Step) (k : ℕ) → last_sent N l k ≤ 2 * N + 1

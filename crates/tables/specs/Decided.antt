@@ -1,5 +1,5 @@
 -- What the table of benches says of decisions and of rounds after a list of steps from the empty tables, for N benches.
--- This file is to be believed: demand 3, W8 and W9 of the tables are stated by it.
+-- This file is to be believed: that decisions agree, and how far and how long rounds go, is stated by it.
 use Rattle.std.specs.Prelude.{◌≡◌, List, ℕ}
 use Rattle.published.specs.Rounds.{Step}
 use Rattle.bench.specs.declared.Bench.{Bench}

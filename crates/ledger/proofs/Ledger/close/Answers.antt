@@ -23,12 +23,12 @@ returns-in_err-may_close c =
     let p = err_from_is_err_and c.from_residual-in_err-may_close.result c.from_residual-in_err-may_close.ensures.1 in
     let s = c.in_ok-i.ensures.ok in
     let x = c.args.self.now in
-    rw (p.1, p.2) (tells_refusal _ x _ _ (c.in_err-may_close.ensures.number _ (book_of x) _ s.0 (knows _ x _ _ s.0 s.1 (row_is c.row_at-row.result) c.row_at-row.ensures)))
+    rw (p.1, p.2) (tells_refusal _ x _ _ (c.in_err-may_close.ensures.number _ (book_of x) _ s.0 (knows _ x _ _ s.0 s.1 (row_is c.in_ok-i.row) s.3)))
 
 pub returns : goal.returns
 returns c =
     let s = c.in_ok-i.ensures.ok in
     let x = c.args.self.now in
     let there : c.in_ok-i.i < length x.rows = omega arith in
-    close_done _ x _ _ s.0 s.1 (row_is c.row_at-row.result) c.row_at-row.ensures there _ (c.from.ensures ∙ ap kept_of c.closed.ensures)
-    (c.in_ok-may_close.ensures.number _ (book_of x) _ s.0 (knows _ x _ _ s.0 s.1 (row_is c.row_at-row.result) c.row_at-row.ensures))
+    close_done _ x _ _ s.0 s.1 (row_is c.in_ok-i.row) s.3 there _ (c.from.ensures ∙ ap kept_of c.closed.ensures)
+    (c.in_ok-may_close.ensures.number _ (book_of x) _ s.0 (knows _ x _ _ s.0 s.1 (row_is c.in_ok-i.row) s.3))

@@ -27,7 +27,7 @@ returns-in_err-may_end c =
     let p = err_from_is_err_and c.from_residual-in_err-may_end.result c.from_residual-in_err-may_end.ensures.1 in
     let s = c.in_ok-i.ensures.ok in
     let x = c.args.self.now in
-    rw (p.1, p.2) (tells_refusal _ x _ _ (c.in_err-may_end.ensures _ (book_of x) _ s.0 (knows _ x _ _ s.0 s.1 (row_is c.row_at-row.result) c.row_at-row.ensures) refl))
+    rw (p.1, p.2) (tells_refusal _ x _ _ (c.in_err-may_end.ensures _ (book_of x) _ s.0 (knows _ x _ _ s.0 s.1 (row_is c.in_ok-i.row) s.3) refl))
 
 pub returns : goal.returns
 unfolding book_of only held_in
@@ -36,6 +36,6 @@ returns c =
     let x = c.args.self.now in
     let there : c.in_ok-i.i < length x.rows = omega arith in
     let whole : length x.room ≡ room_words = omega arith in
-    end_done _ x _ _ s.0 s.1 (row_is c.row_at-row.result) c.row_at-row.ensures there _ _ (c.from.ensures ∙ ap kept_of c.ended.ensures) whole _ c.held-held.ensures _ _
+    end_done _ x _ _ s.0 s.1 (row_is c.in_ok-i.row) s.3 there _ _ (c.from.ensures ∙ ap kept_of c.ended.ensures) whole _ c.held-held.ensures _ _
     (c.take_out-left.ensures.taken (λ v. eqb v.sender c.args.sender.0 && leb c.args.slot.0 v.slot) (λ w t r. search rules) refl)
-    (c.in_ok-may_end.ensures _ (book_of x) _ s.0 (knows _ x _ _ s.0 s.1 (row_is c.row_at-row.result) c.row_at-row.ensures) refl)
+    (c.in_ok-may_end.ensures _ (book_of x) _ s.0 (knows _ x _ _ s.0 s.1 (row_is c.in_ok-i.row) s.3) refl)

@@ -23,7 +23,7 @@ returns-in_err-may_join c =
     let p = err_from_is_err_and c.from_residual-in_err-may_join.result c.from_residual-in_err-may_join.ensures.1 in
     let s = c.in_ok-i.ensures.ok in
     let x = c.args.self.now in
-    rw (p.1, p.2) (tells_refusal _ x _ _ (c.in_err-may_join.ensures _ (book_of x) _ s.0 (knows _ x _ _ s.0 s.1 (row_is c.row_at-row.result) c.row_at-row.ensures) refl))
+    rw (p.1, p.2) (tells_refusal _ x _ _ (c.in_err-may_join.ensures _ (book_of x) _ s.0 (knows _ x _ _ s.0 s.1 (row_is c.in_ok-i.row) s.3) refl))
 
 pub returns : goal.returns
 unfolding book_of row_is
@@ -31,5 +31,5 @@ returns c =
     let s = c.in_ok-i.ensures.ok in
     let x = c.args.self.now in
     let there : c.in_ok-i.i < length x.rows = omega arith in
-    join_done _ x _ _ s.0 s.1 (row_is c.row_at-row.result) c.row_at-row.ensures there _ _ c.from.ensures s.2 _ c.only.ensures
-    (c.in_ok-may_join.ensures _ (book_of x) _ s.0 (knows _ x _ _ s.0 s.1 (row_is c.row_at-row.result) c.row_at-row.ensures) refl)
+    join_done _ x _ _ s.0 s.1 (row_is c.in_ok-i.row) s.3 there _ _ c.from.ensures s.2 _ c.only.ensures
+    (c.in_ok-may_join.ensures _ (book_of x) _ s.0 (knows _ x _ _ s.0 s.1 (row_is c.in_ok-i.row) s.3) refl)

@@ -13,4 +13,4 @@ pub send-requires : goal.send-requires
 send-requires c = rw c.message-m.ensures (has_room (benches_of c.args.size) c.args.tables.now.benches c.args.tables.now.logs c.in_ok-k.k.index c.heard_by.result (grind (arith, common_steps)) c.turn-turned.result (grind (arith, common_steps)) _ c.in_ok-turned.was)
 
 pub returns : goal.returns
-returns c = turn_done (benches_of c.args.size) c.args.tables.now.benches c.args.tables.now.logs c.in_ok-k.k.index c.heard_by.result (grind (arith, common_steps)) c.turn-turned.result (grind (arith, common_steps)) _ (search rules) _ _ _ c.in_ok-turned.was (rw (c.message-m.ensures, set-get_or) at c.send.ensures)
+returns c = turn_done (benches_of c.args.size) c.args.tables.now.benches c.args.tables.now.logs c.in_ok-k.k.index c.heard_by.result (grind (arith, common_steps)) c.turn-turned.result (grind (arith, common_steps)) _ (search rules) _ _ c.in_ok-turned.was (rw (c.message-m.ensures, set-get_or) at c.send.ensures)

@@ -2,7 +2,6 @@
 use native.Mathlib.Omega.{arith}
 use mathlib.Core.Path.{refl}
 use Rattle.common.specs.Benches.{every}
-use Rattle.senders.specs.Rows.{row_is}
 use Rattle.senders.proofs.Going.{going_out, going_next, held_up, all_go}
 use Rattle.senders.proofs.table.all_closed.Goals as goal
 use Rattle.senders.proofs.table.all_closed.Goals.{else-rest-eq1-via-then-rest-eq1+else-not-lets_go, else-rest-eq1-via-else-rest-eq1}

@@ -1,11 +1,20 @@
--- `behind` meets its contract. By whether the key stands there. Assumes nothing.
-use mathlib.Core.Path.{sym, ◌∙◌}
-use Rattle.std.proofs.Common.{rules}
-use Rattle.text.proofs.Keys.{behind_is, behind_not}
+-- `behind` meets its contract. By whether the text's bytes there are the key's. Assumes nothing.
+use native.Mathlib.Omega.{arith}
+use mathlib.Core.Path.{refl, ◌∙◌}
+use lib.ListN.{length-drop}
+use Rattle.text.proofs.Keys.{short_key, here_is, this_key, other_key}
 use Rattle.text.proofs.bytes.behind.Goals as goal
 
-pub returns-then-starts_with : goal.returns-then-starts_with
-returns-then-starts_with c = behind_is _ _ _ (search rules)
+pub returns-in_err-end : goal.returns-in_err-end
+returns-in_err-end g c =
+    c.from_residual.ensures ∙ short_key _ _ _ c.told-key (omega (arith, c.in_err-end.ensures, length-drop c.args.at c.args.text.now))
 
-pub returns-else-starts_with : goal.returns-else-starts_with
-returns-else-starts_with c = behind_not _ _ _ (search rules)
+pub returns-then-same : goal.returns-then-same
+returns-then-same g c =
+    let end = c.in_ok-end.ensures in
+    this_key _ _ _ c.told-key (here_is _ _ _ c.told-key (λ b. b.now) c.get.result end.1 c.unwrap_or-here.ensures refl c.get.ensures.lookup.0) end.1 c.if-same.ensures
+
+pub returns-else-same : goal.returns-else-same
+returns-else-same g c =
+    let end = c.in_ok-end.ensures in
+    other_key _ _ _ c.told-key (here_is _ _ _ c.told-key (λ b. b.now) c.get.result end.1 c.unwrap_or-here.ensures refl c.get.ensures.lookup.0) end.1 c.if-same.ensures

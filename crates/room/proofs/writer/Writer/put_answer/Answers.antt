@@ -5,15 +5,15 @@ use Rattle.spelling.specs.Numbers.{ascii, digits}
 use Rattle.room.proofs.Writers.{put_none, put_all, put_held, holds_behind, writes_then}
 use Rattle.room.proofs.writer.Writer.put_answer.Goals as goal
 
-pub returns-then-not-has_room_for_answer : goal.returns-then-not-has_room_for_answer
-returns-then-not-has_room_for_answer c = put_none _ _ _ _ refl c.has_room_for_answer.ensures c.if-not-has_room_for_answer.true
+pub returns-else-has_room_for_answer : goal.returns-else-has_room_for_answer
+returns-else-has_room_for_answer c = put_none _ _ _ _ refl c.has_room_for_answer.ensures c.if-has_room_for_answer.false
 
-pub store_field-requires-2 : goal.store_field-requires-2
-store_field-requires-2 c =
+pub store_field-requires-then-has_room_for_answer : goal.store_field-requires-then-has_room_for_answer
+store_field-requires-then-has_room_for_answer c =
     let both = answer_text c.args.line c.args.answer in
     holds_behind c.store_field.ensures (ascii " answer=" ++ digits c.args.answer)
-    (put_held c.args.self.now both _ _ refl c.has_room_for_answer.ensures c.if-not-has_room_for_answer.false)
+    (put_held c.args.self.now both _ _ refl c.has_room_for_answer.ensures c.if-has_room_for_answer.true)
 
-pub returns : goal.returns
-returns c =
-    put_all _ _ _ _ refl c.has_room_for_answer.ensures c.if-not-has_room_for_answer.false (λ _. writes_then c.store_field.ensures c.store_field-2.ensures)
+pub returns-then-has_room_for_answer : goal.returns-then-has_room_for_answer
+returns-then-has_room_for_answer c =
+    put_all _ _ _ _ refl c.has_room_for_answer.ensures c.if-has_room_for_answer.true (λ _. writes_then c.store_field.ensures c.store_field-then-has_room_for_answer.ensures)

@@ -8,10 +8,10 @@ use Rattle.room.proofs.writer.Writer.put_refusal.Goals as goal
 pub overflow_add-number_length : goal.overflow_add-number_length
 overflow_add-number_length c = omega (arith, number_short _ c.number_length.ensures)
 
-pub returns-then-not-has_room : goal.returns-then-not-has_room
-returns-then-not-has_room c = put_none _ _ _ _ (refusal_measured _ c.number_length.ensures) c.has_room.ensures c.if-not-has_room.true
+pub returns-else-has_room : goal.returns-else-has_room
+returns-else-has_room c = put_none _ _ _ _ (refusal_measured _ c.number_length.ensures) c.has_room.ensures c.if-has_room.false
 
-pub returns : goal.returns
-returns c =
+pub returns-then-has_room : goal.returns-then-has_room
+returns-then-has_room c =
     let line = put_then _ _ c.put_field.ensures (put_last _ c.put_bytes.ensures) in
-    put_all _ _ _ _ (refusal_measured _ c.number_length.ensures) c.has_room.ensures c.if-not-has_room.false line
+    put_all _ _ _ _ (refusal_measured _ c.number_length.ensures) c.has_room.ensures c.if-has_room.true line

@@ -11,11 +11,11 @@ overflow_add-number_length c = omega (arith, number_short _ c.number_length.ensu
 pub overflow_add-number_length-2 : goal.overflow_add-number_length-2
 overflow_add-number_length-2 c = omega (arith, number_short _ c.number_length.ensures, number_short _ c.number_length-2.ensures)
 
-pub returns-then-not-has_room : goal.returns-then-not-has_room
-returns-then-not-has_room c =
-    put_none _ _ _ _ (totals_measured _ _ c.number_length.ensures c.number_length-2.ensures) c.has_room.ensures c.if-not-has_room.true
+pub returns-else-has_room : goal.returns-else-has_room
+returns-else-has_room c =
+    put_none _ _ _ _ (totals_measured _ _ c.number_length.ensures c.number_length-2.ensures) c.has_room.ensures c.if-has_room.false
 
-pub returns : goal.returns
-returns c =
-    let line = put_then _ _ c.put_field.ensures (put_then _ _ c.put_field-2.ensures (put_last _ c.put_bytes.ensures)) in
-    put_all _ _ _ _ (totals_measured _ _ c.number_length.ensures c.number_length-2.ensures) c.has_room.ensures c.if-not-has_room.false line
+pub returns-then-has_room : goal.returns-then-has_room
+returns-then-has_room c =
+    let line = put_then _ _ c.put_field.ensures (put_then _ _ c.put_field-then-has_room.ensures (put_last _ c.put_bytes.ensures)) in
+    put_all _ _ _ _ (totals_measured _ _ c.number_length.ensures c.number_length-2.ensures) c.has_room.ensures c.if-has_room.true line
