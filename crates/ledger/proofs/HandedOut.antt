@@ -19,10 +19,10 @@ use Rattle.book.specs.Book.{last_out, Row, all_closed, may_go, tags_of, advanced
 use Rattle.ledger.specs.declared.Cursor.{Cursor}
 use Rattle.ledger.specs.declared.Ledger.{Ledger}
 use Rattle.ledger.specs.declared.Sweep as code
-use Rattle.ledger.specs.Seen.{room_words, next_by, held_by, joined_by, rows_by, sweep_is, held_in, book_of}
+use Rattle.ledger.specs.Seen.{room_words, next_by, held_by, rows_by, sweep_is, held_in, book_of}
 use Rattle.ledger.specs.Advancing.{advanced_of}
 use Rattle.ledger.specs.Sweeps.{of_slot, NoneOf, TakesOut}
-use Rattle.ledger.specs.Promises.{Hands, cursor_of, cursor_after, rows_after, laid}
+use Rattle.ledger.specs.Promises.{Hands, cursor_of, cursor_after, joined_after, rows_after, laid}
 use Rattle.book.proofs.Outcomes.{step_fails, step_holds}
 use Rattle.ledger.proofs.Refused.{number_positive}
 use Rattle.ledger.proofs.Told.{refused, done, held_min}
@@ -73,17 +73,18 @@ module _ (n : ℕ) (x : Ledger) (out : List ℕ) where
 
       pub hand_done : (count : ℕ) (out' : List ℕ) → (count ≡ length (tags_of n (next_by x) (map sweep_is sweeps))) × (count ≤ length out) × (out' ≡ laid (tags_of n (next_by x) (map sweep_is sweeps)) out)
           → (left : ℕ) (room' : List code.Sweep) → TakesOut (λ w. eqb w.slot (next_by x)) held x.room left room' → (c : Cursor) → c ≡ advanced_of x.cursor left
-          → Hands n x out (Ok count) (record { cursor = c; rows = x.rows; room = room' }) out'
-      unfolding checks book_of after answer advanced cursor_after cursor_of rows_after
+          → Hands n x out (Ok count) (record { cursor = c; senders = x.senders; room = room' }) out'
+      unfolding checks book_of after answer advanced cursor_after cursor_of joined_after rows_after
       hand_done count out' written left room' y c ic =
           let tags = tags_are in
           let holds : Holds (checks n (book_of x) (hand_out (length out))) =
           also 17 _ _ (le-leb (next_by x) last_out h) (also 24 _ _ may (also 22 _ _ (le-leb (length (tags_of n (next_by x) (held_in (held_by x) x.room))) (length out) (omega (arith, written, ap length tags))) nothing)) in
           let e = step_holds n (book_of x) (hand_out (length out)) holds in
           record {
-            tells = done n x (hand_out (length out)) (record { cursor = c; rows = x.rows; room = room' }) holds record {
+            tells = done n x (hand_out (length out)) (record { cursor = c; senders = x.senders; room = room' }) holds record {
               book_is = rw (ic, add-one, y.held_is, all);
-              cursor_is = rw (ic, add-one) (ap (λ (j : ℕ). record { next = record { 0 = suc (next_by x) }; held = j; joined = joined_by x }) (y.count_is ∙ ap length (sym y.held_is)));
+              cursor_is = rw (ic, add-one) (ap (λ (j : ℕ). record { next = record { 0 = suc (next_by x) }; held = j }) (y.count_is ∙ ap length (sym y.held_is)));
+              joined_is = refl;
               rows_are = refl;
               past_is = rw ic y.past_is;
             };

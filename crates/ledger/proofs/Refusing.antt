@@ -20,7 +20,7 @@ module _ (n : ℕ) (x : Ledger) (s : Step) (r : ℕ) (x' : Ledger) (a : Tells n 
   same = refused_same n (book_of x) s (λ z. refused (a.number_is ∙ z))
 
   stays : Tells n x s r x
-  stays = record { number_is = a.number_is; book_is = sym same.0; cursor_is = rw (ne_eqb r 0 refused) refl; rows_are = rw (ne_eqb r 0 refused) refl; past_is = refl }
+  stays = record { number_is = a.number_is; book_is = sym same.0; cursor_is = rw (ne_eqb r 0 refused) refl; joined_is = rw (ne_eqb r 0 refused) refl; rows_are = rw (ne_eqb r 0 refused) refl; past_is = refl }
 
   pub refused_keeps : x' ≡ x
   refused_keeps = settles.one_content n x s r r x' x a stays

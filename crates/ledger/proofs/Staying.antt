@@ -1,4 +1,4 @@
--- What a step of the code leaves as it was, done or refused: join and close the room, close the cursor too, sweep and hand-out the rows.
+-- What a step of the code leaves as it was, done or refused: join and close the cursor and the room, sweep and hand-out the senders.
 -- Assumes nothing.
 use mathlib.Core.Path.{◌≡◌, refl, ap, sym, ◌∙◌}
 use Prim.Native.Nat.{ℕ}
@@ -8,14 +8,14 @@ use Rattle.book.specs.Book.{Book, with_row, Step, join, sweep, close, hand_out, 
 use Rattle.ledger.specs.declared.Cursor.{Cursor}
 use Rattle.ledger.specs.declared.Ledger.{Ledger}
 use Rattle.ledger.specs.Seen.{held_by, held_in, book_of}
-use Rattle.ledger.specs.Promises.{cursor_after, rows_after, Tells}
+use Rattle.ledger.specs.Promises.{cursor_after, joined_after, rows_after, Tells}
 use Rattle.book.proofs.Outcomes.{join_ind, close_ind}
 use Rattle.ledger.proofs.Same.{same_room}
 
 -- either way the same
-either : {A B : Type 0} (f : A → B) (c : Bool) (x y : A) → f x ≡ f y → f (cond c x y) ≡ f y
-either f true x y e = e
-either f false x y e = refl
+either : {A : Type 0} (c : Bool) (x : A) → cond c x x ≡ x
+either true x = refl
+either false x = refl
 
 -- no sweep is held more or less
 room_kept : (n : ℕ) (x : Ledger) (s : Step) (r : ℕ) (x' : Ledger) → Tells n x s r x' → (step n (book_of x) s).book.held ≡ (book_of x).held → held_by x' ≡ held_by x → x'.room ≡ x.room
@@ -23,15 +23,19 @@ unfolding book_of
 room_kept n x s r x' t same count = same_room (held_by x') x'.room x.room (ap (λ (b : Book). b.held) t.book_is ∙ same ∙ ap (λ (k : ℕ). held_in k x.room) (sym count)) t.past_is
 
 module _ (n : ℕ) (x : Ledger) (r : ℕ) (x' : Ledger) where
+  pub join_keeps_cursor : (s f : ℕ) → Tells n x (join s f) r x' → x'.cursor ≡ x.cursor
+  unfolding cursor_after
+  join_keeps_cursor s f t = t.cursor_is ∙ either (eqb r 0) x.cursor
+
   pub join_keeps_room : (s f : ℕ) → Tells n x (join s f) r x' → x'.room ≡ x.room
-  unfolding answer with_row cursor_after
+  unfolding answer with_row
   join_keeps_room s f t = room_kept n x (join s f) r x' t
       (join_ind n (book_of x) (λ a. a.book.held ≡ (book_of x).held) s f (λ k e. refl) (λ i e g u. refl))
-      (ap (λ (c : Cursor). c.held) t.cursor_is ∙ either (λ (c : Cursor). c.held) (eqb r 0) _ x.cursor refl)
+      (ap (λ (c : Cursor). c.held) (join_keeps_cursor s f t))
 
   pub close_keeps_cursor : (s : ℕ) → Tells n x (close s) r x' → x'.cursor ≡ x.cursor
   unfolding cursor_after
-  close_keeps_cursor s t = t.cursor_is ∙ either (λ (c : Cursor). c) (eqb r 0) _ x.cursor refl
+  close_keeps_cursor s t = t.cursor_is ∙ either (eqb r 0) x.cursor
 
   pub close_keeps_room : (s : ℕ) → Tells n x (close s) r x' → x'.room ≡ x.room
   unfolding answer with_row
@@ -39,10 +43,14 @@ module _ (n : ℕ) (x : Ledger) (r : ℕ) (x' : Ledger) where
       (close_ind n (book_of x) (λ a. a.book.held ≡ (book_of x).held) s (λ k e. refl) (λ f o i e u. refl))
       (ap (λ (c : Cursor). c.held) (close_keeps_cursor s t))
 
-  pub sweep_keeps_rows : (s tag : ℕ) → Tells n x (sweep s tag) r x' → x'.rows ≡ x.rows
-  unfolding rows_after
-  sweep_keeps_rows s tag t = t.rows_are ∙ either (λ l. l) (eqb r 0) x.rows x.rows refl
+  -- the set and the rows
+  senders_are : x'.senders.joined ≡ x.senders.joined → x'.senders.rows ≡ x.senders.rows → x'.senders ≡ x.senders
+  senders_are j l = λ i. record { joined = j i; rows = l i }
 
-  pub hand_out_keeps_rows : (room : ℕ) → Tells n x (hand_out room) r x' → x'.rows ≡ x.rows
-  unfolding rows_after
-  hand_out_keeps_rows room t = t.rows_are ∙ either (λ l. l) (eqb r 0) x.rows x.rows refl
+  pub sweep_keeps_senders : (s tag : ℕ) → Tells n x (sweep s tag) r x' → x'.senders ≡ x.senders
+  unfolding joined_after rows_after
+  sweep_keeps_senders s tag t = senders_are (t.joined_is ∙ either (eqb r 0) x.senders.joined) (t.rows_are ∙ either (eqb r 0) x.senders.rows)
+
+  pub hand_out_keeps_senders : (room : ℕ) → Tells n x (hand_out room) r x' → x'.senders ≡ x.senders
+  unfolding joined_after rows_after
+  hand_out_keeps_senders room t = senders_are (t.joined_is ∙ either (eqb r 0) x.senders.joined) (t.rows_are ∙ either (eqb r 0) x.senders.rows)

@@ -43,7 +43,7 @@ one_hand_out n x out r q y z o p a c =
     (settles.one_hand_out n x out r q y z o p a c, settles.one_hand_out_content n x out r q y z o p a c, settles.one_buffer n x out r q y z o p a c)
 
 -- Of a new ledger: one content of the cursor and of the rows.
-pub one_beginning : (begin : ℕ) (x y : Ledger) → Begins begin x → Begins begin y → (x.cursor ≡ y.cursor) × (x.rows ≡ y.rows)
+pub one_beginning : (begin : ℕ) (x y : Ledger) → Begins begin x → Begins begin y → (x.cursor ≡ y.cursor) × (x.senders ≡ y.senders)
 one_beginning = settles.one_beginning
 
 -- ---- the book, from a new one by a list of steps

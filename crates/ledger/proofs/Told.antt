@@ -32,7 +32,7 @@ use Rattle.ledger.specs.declared.Ledger.{Ledger}
 use Rattle.ledger.specs.declared.Sweep as code
 use Rattle.ledger.specs.Seen.{room_words, next_by, held_by, joined_by, sweep_is, held_in, book_of}
 use Rattle.ledger.specs.Sweeps.{TakesOut}
-use Rattle.ledger.specs.Promises.{Tells, cursor_of, cursor_after, rows_after}
+use Rattle.ledger.specs.Promises.{Tells, cursor_of, cursor_after, joined_after, rows_after}
 use Rattle.senders.proofs.Kept.{slot_in_lem, kept_joined, kept_ended}
 use Rattle.senders.proofs.Seating.{rows_joined, rows_open_last, rows_joins, rows_stays}
 use Rattle.book.proofs.Outcomes.{positive, after_done, step_ind, step_fails, step_holds}
@@ -73,7 +73,7 @@ pub refused : (n : ℕ) (x : Ledger) (s : Step) (r : ℕ) → eqb r 0 ≡ false 
 unfolding answer
 refused n x s r nz f =
     let e = step_fails n (book_of x) s r f in
-    record { number_is = rw e; book_is = rw e; cursor_is = rw nz; rows_are = rw nz; past_is = refl }
+    record { number_is = rw e; book_is = rw e; cursor_is = rw nz; joined_is = rw nz; rows_are = rw nz; past_is = refl }
 
 -- it is refused where the number is not 0
 pub tells_refused : (n : ℕ) (x : Ledger) (s : Step) (r : ℕ) → r ≡ (step n (book_of x) s).number → (r ≡ 0 → ⊥) → Tells n x s r x
@@ -94,7 +94,8 @@ no_sender n s q x a l e = refused n x a 1 refl (rw e (here 1 _ l q))
 pub record Does (n : ℕ) (x : Ledger) (s : Step) (x' : Ledger) : Type 0 where
   pub book_is : book_of x' ≡ (after n (book_of x) s).book
   pub cursor_is : x'.cursor ≡ cursor_after s (book_of x') x.cursor
-  pub rows_are : x'.rows ≡ rows_after s (book_of x') x.rows
+  pub joined_is : x'.senders.joined ≡ joined_after s x.senders.joined
+  pub rows_are : x'.senders.rows ≡ rows_after s (book_of x') x.senders.rows
   pub past_is : drop (held_by x') x'.room ≡ drop (held_by x') x.room
 
 pub done : (n : ℕ) (x : Ledger) (s : Step) (x' : Ledger) → Holds (checks n (book_of x) s) → Does n x s x' → Tells n x s 0 x'
@@ -104,6 +105,7 @@ done n x s x' h d =
       number_is = rw e (sym (after_done n (book_of x) s));
       book_is = rw e d.book_is;
       cursor_is = rw (e, ← d.book_is) d.cursor_is;
+      joined_is = d.joined_is;
       rows_are = rw (e, ← d.book_is) d.rows_are;
       past_is = d.past_is;
     }
@@ -115,35 +117,35 @@ tells_done n x s x' e d = step_ind n (book_of x) s (λ a. 0 ≡ a.number → Tel
     (λ h i. done n x s x' h (d h)) e
 
 -- place i is where the code looks for sender s, and `known` what it finds there
-module _ (n : ℕ) (x : Ledger) (s i : ℕ) (bench : is_bench n s ≡ true) (behind : suc i ≡ s) (known : Row) (at : known ≡ rows_of (joined_by x) x.rows s) where
+module _ (n : ℕ) (x : Ledger) (s i : ℕ) (bench : is_bench n s ≡ true) (behind : suc i ≡ s) (known : Row) (at : known ≡ rows_of (joined_by x) x.senders.rows s) where
   pub knows : (book_of x).rows s ≡ known
   unfolding book_of
   knows = sym at
 
   -- a sender that passes a test of those that have joined is in the set
-  in_set : (p : Row → Bool) → p book.unknown ≡ false → p (rows_of (joined_by x) x.rows s) ≡ true → has (joined_by x) i ≡ true
-  in_set p u e = rows_joined p u (joined_by x) x.rows i (ap (λ (k : ℕ). p (rows_of (joined_by x) x.rows k)) behind ∙ e)
+  in_set : (p : Row → Bool) → p book.unknown ≡ false → p (rows_of (joined_by x) x.senders.rows s) ≡ true → has (joined_by x) i ≡ true
+  in_set p u e = rows_joined p u (joined_by x) x.senders.rows i (ap (λ (k : ℕ). p (rows_of (joined_by x) x.senders.rows k)) behind ∙ e)
 
   -- the row is written anew, and the set is j then
-  module _ (new : Row) (w : SenderRow) (written : w ≡ kept_of new) (back : row_in (kept_of new) ≡ new) (j : ℕ) (are : rows_of j (set x.rows i w) ≡ put (rows_of (joined_by x) x.rows) (suc i) (row_in w)) where
-    rows_after_lem : rows_of j (set x.rows i w) ≡ put (rows_of (joined_by x) x.rows) s new
-    rows_after_lem = are ∙ ap (λ (k : ℕ). put (rows_of (joined_by x) x.rows) k (row_in w)) behind ∙ ap (put (rows_of (joined_by x) x.rows) s) (ap row_in written ∙ back)
+  module _ (new : Row) (w : SenderRow) (written : w ≡ kept_of new) (back : row_in (kept_of new) ≡ new) (j : ℕ) (are : rows_of j (set x.senders.rows i w) ≡ put (rows_of (joined_by x) x.senders.rows) (suc i) (row_in w)) where
+    rows_after_lem : rows_of j (set x.senders.rows i w) ≡ put (rows_of (joined_by x) x.senders.rows) s new
+    rows_after_lem = are ∙ ap (λ (k : ℕ). put (rows_of (joined_by x) x.senders.rows) k (row_in w)) behind ∙ ap (put (rows_of (joined_by x) x.senders.rows) s) (ap row_in written ∙ back)
 
-    rows_written : set x.rows i w ≡ set x.rows (s - 1) (kept_of (rows_of j (set x.rows i w) s))
+    rows_written : set x.senders.rows i w ≡ set x.senders.rows (s - 1) (kept_of (rows_of j (set x.senders.rows i w) s))
     rows_written =
         let k : i ≡ s - 1 = omega (arith, behind) in
-        let row : rows_of j (set x.rows i w) s ≡ new = ap (λ (f : ℕ → Row). f s) rows_after_lem ∙ put_same (rows_of (joined_by x) x.rows) s new in
-        ap (λ (l : ℕ). set x.rows l w) k ∙ ap (set x.rows (s - 1)) (written ∙ ap kept_of (sym row))
+        let row : rows_of j (set x.senders.rows i w) s ≡ new = ap (λ (f : ℕ → Row). f s) rows_after_lem ∙ put_same (rows_of (joined_by x) x.senders.rows) s new in
+        ap (λ (l : ℕ). set x.senders.rows l w) k ∙ ap (set x.senders.rows (s - 1)) (written ∙ ap kept_of (sym row))
 
-  module _ (there : i < length x.rows) (w : SenderRow) where
+  module _ (there : i < length x.senders.rows) (w : SenderRow) where
     -- `one` is the set of place i alone
     pub join_done : (f : ℕ) → w ≡ kept_of (book.joined f f) → i < places → (one : ℕ) → one ≡ 2 ^ i % 2 ^ 32 → 0 ≡ (step n (book_of x) (join s f)).number
-        → Tells n x (join s f) 0 (record { cursor = record { next = x.cursor.next; held = x.cursor.held; joined = bit_or (joined_by x) one }; rows = set x.rows i w; room = x.room })
-    unfolding checks book_of after answer with_row cursor_after rows_after
+        → Tells n x (join s f) 0 (record { cursor = x.cursor; senders = record { joined = bit_or (joined_by x) one; rows = set x.senders.rows i w }; room = x.room })
+    unfolding checks book_of after answer with_row cursor_after joined_after rows_after
     join_done f new l one is r =
         let alone : one ≡ 2 ^ i = is ∙ only_small i (omega (arith, places_fit)) in
         let j = bit_or (joined_by x) one in
-        let are : rows_of j (set x.rows i w) ≡ put (rows_of (joined_by x) x.rows) (suc i) (row_in w) = rw alone (rows_joins (joined_by x) x.rows i w there) in
+        let are : rows_of j (set x.senders.rows i w) ≡ put (rows_of (joined_by x) x.senders.rows) (suc i) (row_in w) = rw alone (rows_joins (joined_by x) x.senders.rows i w there) in
         tells_done n x (join s f) _ r
         λ h. let c = first_check 14 _ _ (other_checks 13 _ _ (other_checks 1 _ _ h)) in
         let low : f ≤ last_slot = leb-true f last_slot (both (leb (next_by x) f) (leb f last_slot) c).1 in
@@ -151,48 +153,50 @@ module _ (n : ℕ) (x : Ledger) (s i : ℕ) (bench : is_bench n s ≡ true) (beh
         let k : i ≡ s - 1 = omega (arith, behind) in
         record {
           book_is = rw (rows_after_lem _ w new back j are);
-          cursor_is = ap (λ (y : ℕ). record { next = x.cursor.next; held = x.cursor.held; joined = bit_or (joined_by x) y }) (alone ∙ ap (λ (y : ℕ). 2 ^ y) k);
+          cursor_is = refl;
+          joined_is = ap (bit_or (joined_by x)) (alone ∙ ap (λ (y : ℕ). 2 ^ y) k);
           rows_are = rows_written _ w new back j are;
           past_is = refl;
         }
 
     pub close_done : w ≡ kept_of (book.joined (first_slot known) (suc (slot_in (open_slot known)))) → 0 ≡ (step n (book_of x) (close s)).number
-        → Tells n x (close s) 0 (record { cursor = x.cursor; rows = set x.rows i w; room = x.room })
-    unfolding checks book_of after answer with_row cursor_after rows_after is_open
+        → Tells n x (close s) 0 (record { cursor = x.cursor; senders = record { joined = joined_by x; rows = set x.senders.rows i w }; room = x.room })
+    unfolding checks book_of after answer with_row cursor_after joined_after rows_after is_open
     close_done new r = tells_done n x (close s) _ r
         λ h. let c = other_checks 1 _ _ h in
-        let low : open_slot known ≤ last_slot = rw knows at (leb-true (open_slot (rows_of (joined_by x) x.rows s)) last_slot (first_check 17 _ _ (other_checks 15 _ _ c))) in
+        let low : open_slot known ≤ last_slot = rw knows at (leb-true (open_slot (rows_of (joined_by x) x.senders.rows s)) last_slot (first_check 17 _ _ (other_checks 15 _ _ c))) in
         let back = kept_joined (first_slot known) (suc (open_slot known)) (omega arith) in
         let new' : w ≡ kept_of (book.joined (first_slot known) (suc (open_slot known))) = new ∙ ap (λ (k : ℕ). kept_of (book.joined (first_slot known) (suc k))) (slot_in_lem (open_slot known) (omega arith)) in
-        let are = rows_stays (joined_by x) x.rows i w there (in_set is_open refl (first_check 15 _ _ c)) in
-        record { book_is = rw (rows_after_lem _ w new' back (joined_by x) are, knows); cursor_is = refl; rows_are = rows_written _ w new' back (joined_by x) are; past_is = refl }
+        let are = rows_stays (joined_by x) x.senders.rows i w there (in_set is_open refl (first_check 15 _ _ c)) in
+        record { book_is = rw (rows_after_lem _ w new' back (joined_by x) are, knows); cursor_is = refl; joined_is = refl; rows_are = rows_written _ w new' back (joined_by x) are; past_is = refl }
 
     -- the sweeps of the sender are gone from the first m places, and `left` are left
     pub end_done : (slot : ℕ) → w ≡ kept_of (book.ended (first_slot known) (open_slot known) slot) → length x.room ≡ room_words → (m : ℕ) → m ≡ min (held_by x) room_words → (left : ℕ) (room' : List code.Sweep)
         → TakesOut (λ v. eqb v.sender s && leb slot v.slot) m x.room left room' → 0 ≡ (step n (book_of x) (end s slot)).number
-        → Tells n x (end s slot) 0 (record { cursor = record { next = x.cursor.next; held = left; joined = joined_by x }; rows = set x.rows i w; room = room' })
-    unfolding checks book_of after answer with_row cut cursor_after cursor_of rows_after has_joined
+        → Tells n x (end s slot) 0 (record { cursor = record { next = x.cursor.next; held = left }; senders = record { joined = joined_by x; rows = set x.senders.rows i w }; room = room' })
+    unfolding checks book_of after answer with_row cut cursor_after cursor_of joined_after rows_after has_joined
     end_done slot new room m is left room' y r =
         let a : held_in m x.room ≡ held_in (held_by x) x.room = rw is (held_min x.room (held_by x) room) in
         tells_done n x (end s slot) _ r
         λ h. let c = other_checks 1 _ _ h in
-        let low : slot ≤ open_slot known = rw knows at (leb-true slot (open_slot (rows_of (joined_by x) x.rows s)) (first_check 18 _ _ (other_checks 16 _ _ (other_checks 15 _ _ c)))) in
-        let last : open_slot known ≤ suc last_slot = rw at (rows_open_last (joined_by x) x.rows s) in
+        let low : slot ≤ open_slot known = rw knows at (leb-true slot (open_slot (rows_of (joined_by x) x.senders.rows s)) (first_check 18 _ _ (other_checks 16 _ _ (other_checks 15 _ _ c)))) in
+        let last : open_slot known ≤ suc last_slot = rw at (rows_open_last (joined_by x) x.senders.rows s) in
         let back = kept_ended (first_slot known) (open_slot known) slot last (omega arith) in
-        let are = rows_stays (joined_by x) x.rows i w there (in_set has_joined refl (first_check 15 _ _ c)) in
+        let are = rows_stays (joined_by x) x.senders.rows i w there (in_set has_joined refl (first_check 15 _ _ c)) in
         record {
           book_is = rw (rows_after_lem _ w new back (joined_by x) are, knows, y.held_is, a);
-          cursor_is = ap (λ (k : ℕ). record { next = x.cursor.next; held = k; joined = joined_by x }) (y.count_is ∙ ap length (sym y.held_is));
+          cursor_is = ap (λ (k : ℕ). record { next = x.cursor.next; held = k }) (y.count_is ∙ ap length (sym y.held_is));
+          joined_is = refl;
           rows_are = rows_written _ w new back (joined_by x) are;
           past_is = y.past_is;
         }
 
   pub sweep_done : length x.room ≡ room_words → held_by x < room_words → (tag : ℕ) (w : code.Sweep) → sweep_is w ≡ record { sender = s; slot = open_slot known; tag = tag }
       → 0 ≡ (step n (book_of x) (sweep s tag)).number
-      → Tells n x (sweep s tag) 0 (record { cursor = record { next = x.cursor.next; held = held_by x + 1; joined = joined_by x }; rows = x.rows; room = set x.room (held_by x) w })
-  unfolding checks book_of after answer swept cursor_after cursor_of rows_after
+      → Tells n x (sweep s tag) 0 (record { cursor = record { next = x.cursor.next; held = held_by x + 1 }; senders = x.senders; room = set x.room (held_by x) w })
+  unfolding checks book_of after answer swept cursor_after cursor_of joined_after rows_after
   sweep_done room g tag w is r =
       let k = held_by x in
       let p = held_swept x.room k w (record { sender = s; slot = open_slot known; tag = tag }) (omega arith) is in
       tells_done n x (sweep s tag) _ r
-      λ h. record { book_is = rw (knows, p); cursor_is = ap (λ (j : ℕ). record { next = x.cursor.next; held = j; joined = joined_by x }) (held_count x.room k w (omega arith)); rows_are = refl; past_is = drop-set-lt (k + 1) x.room k w (omega arith) }
+      λ h. record { book_is = rw (knows, p); cursor_is = ap (λ (j : ℕ). record { next = x.cursor.next; held = j }) (held_count x.room k w (omega arith)); joined_is = refl; rows_are = refl; past_is = drop-set-lt (k + 1) x.room k w (omega arith) }

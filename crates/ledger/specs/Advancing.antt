@@ -3,4 +3,4 @@ use Rattle.std.specs.Prelude.{ℕ, ◌+◌}
 use Rattle.ledger.specs.declared.Cursor.{Cursor}
 
 abbrev pub advanced_of : Cursor → ℕ → Cursor
-advanced_of c left = record { next = record { 0 = c.next.0 + 1 }; held = left; joined = c.joined }
+advanced_of c left = record { next = record { 0 = c.next.0 + 1 }; held = left }

@@ -10,7 +10,7 @@ use Rattle.senders.specs.Kept.{rows_of}
 abbrev pub room_words : ℕ
 room_words = book.most_held
 
--- the cursor: the next slot to hand out, how many sweeps are held, and the set of the senders that have joined
+-- the next slot to hand out, how many sweeps are held, and the set of the senders that have joined
 abbrev pub next_by : Ledger → ℕ
 next_by x = x.cursor.next.0
 
@@ -18,11 +18,11 @@ abbrev pub held_by : Ledger → ℕ
 held_by x = x.cursor.held
 
 abbrev pub joined_by : Ledger → ℕ
-joined_by x = x.cursor.joined
+joined_by x = x.senders.joined
 
 -- what is known of each sender
 abbrev pub rows_by : Ledger → ℕ → book.Row
-rows_by x = rows_of (joined_by x) x.rows
+rows_by x = rows_of (joined_by x) x.senders.rows
 
 abbrev pub sweep_is : Sweep → book.Sweep
 sweep_is w = record { sender = w.sender; slot = w.slot; tag = w.tag }

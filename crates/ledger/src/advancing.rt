@@ -6,7 +6,7 @@ ghost use Rattle.ledger.specs.Advancing.{advanced_of};
 use crate::Cursor;
 use kinds::SlotNo;
 
-// The plain step: one slot further, with `left` sweeps held. Who has joined stays.
+// The plain step: one slot further, with `left` sweeps held.
 fn advanced(c: Cursor, left: u32) -> Cursor
     requires { c.next.0 ≤ last_slot }
     ensures { result ≡ advanced_of c left }
@@ -14,7 +14,6 @@ fn advanced(c: Cursor, left: u32) -> Cursor
     Cursor {
         next: SlotNo(c.next.0 + 1),
         held: left,
-        joined: c.joined,
     }
 }
 

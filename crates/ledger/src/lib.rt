@@ -5,10 +5,9 @@
 
 use advancing::advance;
 use asking::{may_close, may_end, may_join, may_sweep};
-use kinds::{BenchNo, PLACES, Refusal, Size, SlotNo};
+use kinds::{BenchNo, Refusal, Size, SlotNo};
 use order::write_tags;
-use senders::{all_closed, row_at};
-pub use senders::{LAST_SLOT, Row, Rows, SenderRow};
+pub use senders::{LAST_SLOT, Row, SenderRow, Senders};
 use sets::{TablePlace, only};
 use sweeps::{skipped, take_out};
 
@@ -23,14 +22,11 @@ pub const LAST_OUT: u32 = 65533;
 // How many sweeps can be held: `most_held` of `book`.
 pub const ROOM: usize = 1024;
 
-// Where the ledger stands: the next slot to hand out, how many sweeps are held, and the set of the senders that have joined: place i of the
-// set is sender i + 1. The set stands here, and no row is an Option: the promise of each step names the set (`cursor_after`), and a hand-out
-// looks at no row behind the last that has joined.
+// Where the ledger stands: the next slot to hand out, and how many sweeps are held.
 #[derive(Clone, Copy)]
 pub struct Cursor {
     pub next: SlotNo,
     pub held: u32,
-    pub joined: u32,
 }
 
 impl Cursor {
@@ -38,15 +34,14 @@ impl Cursor {
     ghost use Rattle.book.specs.Book.{new_book};
     ghost use Rattle.ledger.specs.Promises.{cursor_of};
 
-    // Nothing is handed out before the slot at which it begins, nothing is held, and nobody has joined.
+    // Nothing is handed out before the slot at which it begins, and nothing is held.
     #[tactic(auto, unfolding(book::specs::Book::new_book, crate::specs::Promises::cursor_of))]
     fn new(begin: SlotNo) -> Cursor
-        ensures { result ≡ cursor_of (new_book begin.0) 0 }
+        ensures { result ≡ cursor_of (new_book begin.0) }
     {
         Cursor {
             next: begin,
             held: 0,
-            joined: 0,
         }
     }
 }
@@ -63,7 +58,7 @@ pub struct Sweep {
 #[derive(Clone, Copy)]
 pub struct Ledger {
     pub cursor: Cursor,
-    pub rows: Rows,
+    pub senders: Senders,
     pub room: [Sweep; ROOM],
 }
 
@@ -82,10 +77,9 @@ impl Ledger {
         ensures begins { Begins begin.0 result }
         ensures room { result.room ≡ replicate room_words no_sweep }
     {
-        let nobody = SenderRow::from(Row::Unknown);
         Ledger {
             cursor: Cursor::new(begin),
-            rows: [nobody; PLACES],
+            senders: Senders::nobody(),
             room: [Sweep {
                 sender: 0,
                 slot: 0,
@@ -99,9 +93,8 @@ impl Ledger {
         ensures begins { Begins begin.0 self.new }
         ensures room { self.new.room ≡ self.old.room }
     {
-        let nobody = SenderRow::from(Row::Unknown);
         self.cursor = Cursor::new(begin);
-        self.rows = [nobody; PLACES];
+        self.senders = Senders::nobody();
     }
 
     // What the ledger knows of a sender; of a number that has no row, nothing.
@@ -110,7 +103,7 @@ impl Ledger {
     {
         match sender.0.checked_sub(1) {
             None => Row::Unknown,
-            Some(i) => row_at(self.cursor.joined, &self.rows, i as usize),
+            Some(i) => self.senders.row_at(i as usize),
         }
     }
 
@@ -120,8 +113,8 @@ impl Ledger {
     {
         let (i, row) = self.known(sender, size)?;
         may_join(row, self.cursor.next, first)?;
-        self.rows[i] = SenderRow::from(Row::Joined { first, open: first });
-        self.cursor.joined |= only(i);
+        self.senders.rows[i] = SenderRow::from(Row::Joined { first, open: first });
+        self.senders.joined |= only(i);
         Ok(())
     }
 
@@ -131,7 +124,7 @@ impl Ledger {
     {
         let (i, row) = self.known(sender, size)?;
         may_close(row)?;
-        self.rows[i] = SenderRow::from(row.closed());
+        self.senders.rows[i] = SenderRow::from(row.closed());
         Ok(())
     }
 
@@ -160,7 +153,7 @@ impl Ledger {
         let left = take_out(&mut self.room, 0, held, |sweep| {
             sweep.sender as u32 == sender.0 && slot.0 <= sweep.slot as u32
         });
-        self.rows[i] = SenderRow::from(row.ended(slot));
+        self.senders.rows[i] = SenderRow::from(row.ended(slot));
         self.cursor.held = left as u32;
         Ok(())
     }
@@ -176,7 +169,7 @@ impl Ledger {
             return Err(Refusal::PastLastSlot);
         }
         let after = SlotNo(next.0 + 1);
-        if !all_closed(self.cursor.joined, &self.rows, next, after, size) {
+        if !self.senders.all_closed(next, after, size) {
             return Err(Refusal::NotClosed);
         }
         self.give(out, size)
@@ -202,7 +195,7 @@ impl Ledger {
         ensures err { IfErr result (λ refusal. (is_bench (benches_of size) sender.0 ≡ false) × (refusal ≡ Refusal.NoSuchBench)) }
     {
         let i = TablePlace::of(sender, size)?.index;
-        Ok((i, row_at(self.cursor.joined, &self.rows, i)))
+        Ok((i, self.senders.row_at(i)))
     }
 
     // How many sweeps are held, by the cursor's count: no more than there is room for.

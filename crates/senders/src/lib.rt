@@ -6,11 +6,11 @@
 ghost use Rattle.std.specs.Prelude.{◌≡◌};
 ghost use Rattle.senders.specs.Slots.{slot_in};
 
-use kinds::{PLACES, SlotNo};
+use kinds::SlotNo;
 
 mod table; // table.rt: the rows of all senders
 
-pub use table::{all_closed, row_at};
+pub use table::Senders;
 
 // The last slot that is ever closed: `last_slot` of `book`.
 pub const LAST_SLOT: u32 = 65534;
@@ -22,9 +22,6 @@ pub struct SenderRow {
     pub open: SlotNo,
     pub end: Option<SlotNo>,
 }
-
-// Row i is sender i + 1, and says nothing where that has not joined.
-pub type Rows = [SenderRow; PLACES];
 
 // Nothing; its first and its open slot; these and its end.
 #[derive(Clone, Copy)]

@@ -29,6 +29,6 @@ pub returns : goal.returns
 returns c =
     let s = c.in_ok-i.ensures.ok in
     let x = c.args.self.now in
-    let there : c.in_ok-i.i < length x.rows = omega arith in
+    let there : c.in_ok-i.i < length x.senders.rows = omega arith in
     close_done _ x _ _ s.0 s.1 (row_is c.in_ok-i.row) s.3 there _ (c.from.ensures ∙ ap kept_of c.closed.ensures)
     (c.in_ok-may_close.ensures.number _ (book_of x) _ s.0 (knows _ x _ _ s.0 s.1 (row_is c.in_ok-i.row) s.3))

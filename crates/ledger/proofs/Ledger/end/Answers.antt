@@ -34,7 +34,7 @@ unfolding book_of only held_in
 returns c =
     let s = c.in_ok-i.ensures.ok in
     let x = c.args.self.now in
-    let there : c.in_ok-i.i < length x.rows = omega arith in
+    let there : c.in_ok-i.i < length x.senders.rows = omega arith in
     let whole : length x.room ≡ room_words = omega arith in
     end_done _ x _ _ s.0 s.1 (row_is c.in_ok-i.row) s.3 there _ _ (c.from.ensures ∙ ap kept_of c.ended.ensures) whole _ c.held-held.ensures _ _
     (c.take_out-left.ensures.taken (λ v. eqb v.sender c.args.sender.0 && leb c.args.slot.0 v.slot) (λ w t r. search rules) refl)

@@ -30,6 +30,6 @@ unfolding book_of row_is
 returns c =
     let s = c.in_ok-i.ensures.ok in
     let x = c.args.self.now in
-    let there : c.in_ok-i.i < length x.rows = omega arith in
+    let there : c.in_ok-i.i < length x.senders.rows = omega arith in
     join_done _ x _ _ s.0 s.1 (row_is c.in_ok-i.row) s.3 there _ _ c.from.ensures s.2 _ c.only.ensures
     (c.in_ok-may_join.ensures _ (book_of x) _ s.0 (knows _ x _ _ s.0 s.1 (row_is c.in_ok-i.row) s.3) refl)

@@ -12,4 +12,4 @@ returns-clause-ok c =
     let at = c.in_ok-i.field-0 in
     let behind : suc at.index ≡ c.args.sender.0 = omega (arith, told, bench_in _ _ told.0) in
     let x = c.args.self.now in
-    (told.0, behind, at.in_tables, c.row_at.ensures ∙ ap (rows_of x.cursor.joined x.rows) behind)
+    (told.0, behind, at.in_tables, c.row_at.ensures ∙ ap (rows_of x.senders.joined x.senders.rows) behind)
