@@ -25,7 +25,8 @@ fn powers_reached(n: u32) -> usize
     POWERS.iter().take_while(|power| **power <= n).count()
 }
 
-// Stores n from a place on, and answers the place behind it.
+// Stores n from a place on, and answers the place behind it. It takes room and place, since a `Writer` that is handed to a function that is not
+// part of its caller lies in memory: an answer's line took 86 instructions so, and takes 66.
 fn store_digits(room: &mut [u8], at: usize, n: u32) -> usize
     requires { at + length (digits n) ≤ length room.old }
     ensures { Stored room.old at (digits n) result room.new }
