@@ -56,7 +56,8 @@ pub const NO_ENTRY: Entry = Entry {
     world: 0,
 };
 
-// What a bench has heard of its round: from whom, and what each of them said.
+// What a bench has heard of its round: from whom, and what each of them said. The set is a word and the entries no Options, so that whom of its
+// world a bench has heard is one `&`.
 #[derive(Clone, Copy)]
 pub struct Heard {
     pub set: u32,

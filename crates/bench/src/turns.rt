@@ -40,7 +40,7 @@ impl Bench {
         (0..benches_of(size) as usize).any(|k| self.forbids_at(h, k))
     }
 
-    // The third visit: the least value heard from a member, and the members heard.
+    // The third visit: the least value heard from a member, and the members heard. It goes by place, since the set says whose entries count.
     #[tactic(auto, using(crate::proofs::Visits::least_heard, crate::proofs::Visits::least_other), unfolding(crate::specs::Turns::least, crate::specs::Turns::gather_of))]
     fn gather(&self, h: &Heard, size: Size) -> Entry
         ensures { result ≡ gather_of (benches_of size) self.now h.now }

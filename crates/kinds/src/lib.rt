@@ -30,7 +30,7 @@ pub struct SlotNo(pub u32);
 #[derive(Clone, Copy)]
 pub struct RoundNo(pub u32);
 
-// An answer's number, as docs/REFUSALS.md lists them: 0, done, or a refusal's.
+// An answer's number, as docs/REFUSALS.md lists them: 0, done, or a refusal's. A caller that keeps the answers of 65,536 lines keeps these, a byte each.
 pub type AnswerNo = u8;
 
 // Why something is not done. What is refused changes nothing.

@@ -1,10 +1,18 @@
 // The last line of a report, and the one line that stands for a report that is refused.
-ghost use Rattle.spelling.specs.Answers.{totals, refusal_text};
+ghost use Rattle.std.specs.Prelude.{◌≡◌};
+ghost use Rattle.spelling.specs.Answers.{totals, refusal_of, refusal_text};
 ghost use Rattle.room.specs.Writes.{Puts};
 
 use crate::decimal::number_length;
 use crate::writer::Writer;
 use kinds::AnswerNo;
+
+// What an answer adds to the lines not answered 0: 1 of a refusal, 0 of what is done.
+pub fn refusal(answer: AnswerNo) -> u32
+    ensures { result ≡ refusal_of answer }
+{
+    u32::from(answer != 0)
+}
 
 impl Writer<'_> {
     // Writes the line of totals, where the room holds it.

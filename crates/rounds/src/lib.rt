@@ -32,6 +32,7 @@ pub fn empty(tables: &mut Tables)
     *tables = Tables::new();
 }
 
+// A `match` and no closures: each step has other parameters.
 #[tactic(auto, unfolding(kinds::specs::Stand::step_of))]
 pub fn step(tables: &mut Tables, s: Step, size: Size) -> Result<(), Refusal>
     ensures { Stepped (benches_of size) (answer_of result) tables.old tables.new (step_of s) }

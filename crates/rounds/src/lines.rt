@@ -29,7 +29,8 @@ pub(crate) fn next_on(tables: &Tables, k: TablePlace, j: TablePlace) -> Option<M
     (from.silent == 1 && !has(to.outs, j.index)).then_some(Message::Out)
 }
 
-// What a bench has heard of its round: of each sender whose message of that round it has taken.
+// What a bench has heard of its round: of each sender whose message of that round it has taken. A loop by place, since a set, a row and all
+// logs are gone through at the same place.
 #[tactic(auto, using(common::proofs::Places::only_small, crate::proofs::Hearing::heard_more, crate::proofs::Hearing::heard_same), unfolding(tables::specs::Lines::heard_of, tables::specs::Lines::heard_to, tables::specs::Lines::with_message))]
 pub(crate) fn heard_by(bench: &Bench, logs: &Logs, size: Size) -> Heard
     ensures { result ≡ heard_of (benches_of size) logs.now bench.now }

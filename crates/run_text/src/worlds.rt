@@ -9,7 +9,7 @@ ghost use Rattle.spelling.specs.Reading.{member_at, world_at};
 use kinds::Size;
 use room::Writer;
 use spelling::Found;
-use text::numbers;
+use text::{bytes, numbers};
 
 // A member of a world at a place: a bench above `last`.
 fn member_at(text: &[u8], at: usize, last: u32, size: Size) -> Found<u32>
@@ -27,7 +27,7 @@ fn member_at(text: &[u8], at: usize, last: u32, size: Size) -> Found<u32>
 fn comma_at(text: &[u8], at: usize) -> bool
     ensures { result ≡ (get_or text.now at 0 == 44) }
 {
-    text.get(at).is_some_and(|c| *c == b',')
+    bytes::byte_at(text, at) == b','
 }
 
 // The world at a place: benches, strictly rising, joined by commas, at least one.

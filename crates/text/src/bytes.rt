@@ -1,5 +1,5 @@
 // Fixed byte strings such as key names; and where a line ends.
-ghost use Rattle.std.specs.Prelude.{◌≡◌, ◌+◌, ◌==◌, drop};
+ghost use Rattle.std.specs.Prelude.{◌≡◌, ◌+◌, ◌==◌, drop, get_or};
 ghost use Rattle.std.specs.Cmp.Lexicographic.{pointwise};
 ghost use Rattle.spelling.specs.Fields.{behind, line_length};
 
@@ -43,6 +43,13 @@ fn same_few(a: &[u8], b: &[u8]) -> bool
         (Some((x, a)), Some((y, b))) => x == y && a == b,
         _ => a == b,
     }
+}
+
+// The byte at a place, or 0 past the end.
+pub fn byte_at(text: &[u8], at: usize) -> u8
+    ensures { result ≡ get_or text.now at 0 }
+{
+    text.get(at).copied().unwrap_or(0)
 }
 
 // Where the line that begins at a place ends: at byte 10 or at the text's end.

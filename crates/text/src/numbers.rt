@@ -19,6 +19,7 @@ pub fn digit_at(text: &[u8], at: usize) -> Option<u32>
 }
 
 // The number at a place, of which up to `more` digits may follow the first: none after a 0. It is none if it is above 4,294,967,295.
+// The loop goes to the place that is answered, and a chain of digits would count it as well.
 fn number_upto(text: &[u8], at: usize, more: usize) -> Found<u32>
     ensures { result ≡ as_tag (number_upto more text.now at) }
 {
