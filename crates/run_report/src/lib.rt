@@ -9,17 +9,18 @@ ghost use Rattle.kinds.specs.declared.Size.TheVariants.{Sixteen};
 ghost use Rattle.reports.specs.Reported.{Reports, length_for, room_after};
 ghost use Rattle.reports.specs.RunReport.{run_report_of};
 
-mod answers; // answers.rt: the answers' lines measured and written
+mod answers; // answers.rt: the answers' lines measured and stored
 mod benches; // benches.rt: the benches' lines
 mod playing; // playing.rt: a text played
 mod totals; // totals.rt: the lines not answered 0 counted
 
-use answers::{room_for, write_answers};
+use answers::{Answers, room_for, write_answers};
 use benches::write_benches;
 use kinds::{PLACES, Refusal, Size};
 use playing::play;
 use reports::LONGEST;
 use room::Writer;
+use tables::Tables;
 use totals::refused_in;
 
 // Room for every report of a text that is not too long (`room_enough` of crate `reports`).
@@ -37,7 +38,9 @@ pub fn report(text: &[u8], room: &mut [u8]) -> Result<usize, Refusal>
     if LONGEST < text.len() {
         return Err(Refusal::LongText);
     }
-    let (tables, answers) = play(text, Size::Sixteen);
+    let mut tables = Tables::new();
+    let mut answers = Answers::new();
+    play(text, &mut tables, &mut answers, Size::Sixteen);
     let mut rest = [0u8; REST];
     let mut end = Writer {
         room: &mut rest,

@@ -1,10 +1,10 @@
 // A text played on two tables, line by line.
-ghost use Rattle.std.specs.Prelude.{◌≤◌, length};
+ghost use Rattle.std.specs.Prelude.{◌≡◌, ◌≤◌, [], length};
 ghost use Rattle.kinds.specs.Refusals.{answer_of};
 ghost use Rattle.kinds.specs.Sizes.{benches_of};
 ghost use Rattle.tables.specs.Runs.{run_of};
 ghost use Rattle.tables.specs.Sound.{Sound};
-ghost use Rattle.tables.specs.Steps.{refused};
+ghost use Rattle.tables.specs.Steps.{empty_tables, refused};
 ghost use Rattle.tables.specs.Meets.{Links};
 ghost use Rattle.reports.specs.Reported.{longest};
 ghost use Rattle.reports.specs.RunReport.{answer_to};
@@ -16,19 +16,18 @@ use rounds::step;
 use run_text::read_line;
 use tables::Tables;
 
-// Plays the text on a new run. The tables after it, and the answer of each line.
-pub(crate) fn play(text: &[u8], size: Size) -> (Tables, Answers)
-    requires { length text.now ≤ longest }
-    ensures { Played size text.now result.0.benches result.0.logs result.1.items }
+// Plays the text from the empty tables, and keeps the answer of each line.
+pub(crate) fn play(text: &[u8], tables: &mut Tables, answers: &mut Answers, size: Size)
+    requires new_run { tables.old ≡ empty_tables }
+    requires no_answers { answers.old.items ≡ [] }
+    requires text_len_bound { length text.now ≤ longest }
+    ensures { Played size text.now tables.new.benches tables.new.logs answers.new.items }
 {
-    let mut tables = Tables::new();
-    let mut answers = Answers::new();
     let mut at = 0;
     while let Some((line, next)) = read_line(text, at, size) {
-        answers.push(answer_number(play_line(&mut tables, line, size)));
+        answers.push(answer_number(play_line(&mut *tables, line, size)));
         at = next;
     }
-    (tables, answers)
 }
 
 // Plays a line. A malformed one changes nothing.
