@@ -16,7 +16,8 @@ use rounds::step;
 use run_text::read_line;
 use tables::Tables;
 
-// Plays the text from the empty tables, and keeps the answer of each line.
+// Plays the text from the empty tables, and keeps the answer of each line. Both are lent: returned, they would be copied, and a call would take more
+// stack than include/funkenrille.h states.
 pub(crate) fn play(text: &[u8], tables: &mut Tables, answers: &mut Answers, size: Size)
     requires new_run { tables.old ≡ empty_tables }
     requires no_answers { answers.old.items ≡ [] }

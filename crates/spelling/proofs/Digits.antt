@@ -13,8 +13,6 @@ use borrow.Author.Tests.{lt-ltb, le-ltb, le-leb, lt-leb, eq-eqb, ne_eqb, leb-tru
 use Rattle.std.specs.Prelude.{Some, None}
 use Rattle.common.proofs.Tests.{split}
 use Rattle.spelling.proofs.Places.{le_or_lt}
-use Rattle.spelling.specs.LedgerSpelling.{most_tag}
-use Rattle.spelling.specs.LedgerReading.{as_tag}
 use Rattle.spelling.specs.Fields.{Found, digit_at, more_digits, number_upto, below}
 
 -- ---- the digit at a place
@@ -106,56 +104,51 @@ first_more more d h = let one : suc more - more ≡ 1 = omega arith in rw (le-le
 
 -- ---- a number, digit by digit as the code reads it
 
--- a number above all tags grows
-more_large : (r : ℕ) (text : List ℕ) (at v : ℕ) → most_tag < v → as_tag (more_digits r text at v) ≡ None
-more_large zero text at v h =
-    ⊎_elim (λ (stop : 10 ≤ digit_at text at). rw (more_stop 0 text at v refl stop) (rw (lt-leb v most_tag h) refl))
-    (λ (d : digit_at text at < 10). rw (more_none text at v refl d) refl)
-    (le_or_lt 10 (digit_at text at))
-more_large (suc r) text at v h =
-    ⊎_elim (λ (stop : 10 ≤ digit_at text at). rw (more_stop (suc r) text at v refl stop) (rw (lt-leb v most_tag h) refl))
-    (λ (d : digit_at text at < 10). rw (more_step r text at v refl d) (more_large r text (at + 1) (v * 10 + digit_at text at) (omega arith)))
-    (le_or_lt 10 (digit_at text at))
-
 -- of the number at a place the reader has v and stands at `end`; `room` digits may follow the first
 pub record Upto (more : ℕ) (text : List ℕ) (at room end v : ℕ) : Type 0 where
   pub ahead : at < end
   pub few : end ≤ at + 1 + room
   pub inside : end ≤ length text
-  pub small : v ≤ most_tag
+  pub under : v < below (suc more) (at + 1 + room - end)
   pub rest : number_upto more text at ≡ more_digits (at + 1 + room - end) text end v
 
 module _ (more : ℕ) (text : List ℕ) (at : ℕ) where
   module _ {d : ℕ} (e : d ≡ digit_at text at) (h : d < 10) where
-    first : (room : ℕ) → number_upto more text at ≡ more_digits room text (at + 1) d → Upto more text at room (at + 1) d
-    first room q =
+    first : (room : ℕ) → d < below (suc more) room → number_upto more text at ≡ more_digits room text (at + 1) d → Upto more text at room (at + 1) d
+    first room u q =
         let left : at + 1 + room - (at + 1) ≡ room = omega arith in
-        record { ahead = omega arith; few = omega arith; inside = digit_within text at e h; small = omega arith; rest = rw left q }
+        record { ahead = omega arith; few = omega arith; inside = digit_within text at e h; under = rw left u; rest = rw left q }
 
     pub upto_first_zero : d ≡ 0 → Upto more text at 0 (at + 1) d
-    upto_first_zero z = first 0 (sym (upto_zero more text at e h z refl))
+    upto_first_zero z = first 0 (first_none (suc more) d z) (sym (upto_zero more text at e h z refl))
 
     pub upto_first : (d ≡ 0 → ⊥) → Upto more text at more (at + 1) d
-    upto_first z = first more (sym (upto_more more text at e h z refl))
+    upto_first z = first more (first_more more d h) (sym (upto_more more text at e h z refl))
 
   module _ (room end v : ℕ) (p : Upto more text at room end v) where
-    pub upto_stop : 10 ≤ digit_at text end → Some (v, end) ≡ as_tag (number_upto more text at)
-    upto_stop h = sym (ap as_tag (p.rest ∙ more_stop (at + 1 + room - end) text end v refl h) ∙ rw (le-leb v most_tag p.small) refl)
+    pub upto_fits : v < 10 ^ suc more
+    upto_fits = omega (arith, p.under, below_most (suc more) (at + 1 + room - end))
+
+    pub upto_small : more ≤ 9 → v < 10000000000
+    upto_small m = let top : 10 ^ suc more ≤ 10 ^ 10 = pow-le-pow_right (zero-lt-suc 9) {j = 10} (omega arith) in omega (arith, upto_fits)
+
+    pub upto_stop : 10 ≤ digit_at text end → Some (v, end) ≡ number_upto more text at
+    upto_stop h = sym (p.rest ∙ more_stop (at + 1 + room - end) text end v refl h)
 
     module _ {d : ℕ} (e : d ≡ digit_at text end) (h : d < 10) where
-      pub upto_over : room < end - at → None ≡ as_tag (number_upto more text at)
+      pub upto_over : room < end - at → None ≡ number_upto more text at
       upto_over full =
           let z : at + 1 + room - end ≡ 0 = omega (arith, p.few) in
-          sym (ap as_tag (p.rest ∙ ap (λ (r : ℕ). more_digits r text end v) z ∙ more_none text end v e h))
+          sym (p.rest ∙ ap (λ (r : ℕ). more_digits r text end v) z ∙ more_none text end v e h)
 
-      module _ (few : end - at ≤ room) where
-        further : number_upto more text at ≡ more_digits (at + 1 + room - (end + 1)) text (end + 1) (v * 10 + d)
-        further =
-            let left : at + 1 + room - (end + 1) ≡ at + 1 + room - end - 1 = omega (arith, p.ahead) in
-            p.rest ∙ more_turn (at + 1 + room - end) text end v e h (λ z. omega (arith, p.ahead)) ∙ rw left refl
-
-        pub upto_large : most_tag < v * 10 + d → None ≡ as_tag (number_upto more text at)
-        upto_large large = sym (ap as_tag further ∙ more_large (at + 1 + room - (end + 1)) text (end + 1) (v * 10 + d) large)
-
-        pub upto_next : v * 10 + d ≤ most_tag → Upto more text at room (end + 1) (v * 10 + d)
-        upto_next k = record { ahead = omega (arith, p.ahead); few = omega (arith, p.ahead); inside = digit_within text end e h; small = k; rest = further }
+      pub upto_next : end - at ≤ room → Upto more text at room (end + 1) (v * 10 + d)
+      upto_next few =
+          let left : at + 1 + room - (end + 1) ≡ at + 1 + room - end - 1 = omega (arith, p.ahead) in
+          let n : at + 1 + room - end ≡ 0 → ⊥ = λ z. omega (arith, p.ahead) in
+          record {
+            ahead = omega (arith, p.ahead);
+            few = omega (arith, p.ahead);
+            inside = digit_within text end e h;
+            under = rw left (below_turn (suc more) (at + 1 + room - end) v d n p.under h);
+            rest = p.rest ∙ more_turn (at + 1 + room - end) text end v e h n ∙ rw left refl;
+          }

@@ -1,27 +1,29 @@
 // Numbers read, with no leading zero: of 1 to 5 digits, and tags, which have 1 to 10 and are at most 4,294,967,295.
-ghost use Rattle.std.specs.Prelude.{◌≡◌, ◌≤◌, ◌<◌, MatchOption};
+ghost use Rattle.std.specs.Prelude.{◌≡◌, ◌≤◌, ◌<◌, ◌^◌, suc, MatchOption, IfSome};
 ghost use Rattle.spelling.specs.Fields.{digit_at, number_upto, number_at, field_at};
-ghost use Rattle.spelling.specs.LedgerReading.{as_tag, tag_at};
+ghost use Rattle.spelling.specs.LedgerReading.{tag_at};
 
 use crate::bytes;
 use spelling::Found;
 
 // The value of the digit at a place.
-pub fn digit_at(text: &[u8], at: usize) -> Option<u32>
+pub fn digit_at(text: &[u8], at: usize) -> Option<u64>
     ensures { MatchOption result (10 ≤ digit_at text.now at) (λ d. (d ≡ digit_at text.now at) × (d < 10)) }
 {
     let c = *text.get(at)?;
     if c.is_ascii_digit() {
-        Some(u32::from(c - b'0'))
+        Some(u64::from(c - b'0'))
     } else {
         None
     }
 }
 
-// The number at a place, of which up to `more` digits may follow the first: none after a 0. It is none if it is above 4,294,967,295.
-// The loop goes to the place that is answered, and a chain of digits would count it as well.
-fn number_upto(text: &[u8], at: usize, more: usize) -> Found<u32>
-    ensures { result ≡ as_tag (number_upto more text.now at) }
+// The number at a place, of which up to `more` digits may follow the first: none after a 0. The loop goes to the place that is answered, and
+// a chain of digits would count it as well.
+fn number_upto(text: &[u8], at: usize, more: usize) -> Found<u64>
+    requires { more ≤ 9 }
+    ensures value { result ≡ number_upto more text.now at }
+    ensures short { IfSome result (λ (n, end). n < 10 ^ suc more) }
 {
     let mut number = digit_at(text, at)?;
     let room = if number == 0 { 0 } else { more };
@@ -30,7 +32,7 @@ fn number_upto(text: &[u8], at: usize, more: usize) -> Found<u32>
         if room < end - at {
             return None;
         }
-        number = number.checked_mul(10)?.checked_add(digit)?;
+        number = number * 10 + digit;
         end += 1;
     }
     Some((number, end))
@@ -40,15 +42,16 @@ fn number_upto(text: &[u8], at: usize, more: usize) -> Found<u32>
 pub fn number_at(text: &[u8], at: usize) -> Found<u32>
     ensures { result ≡ number_at text.now at }
 {
-    number_upto(text, at, 4)
+    let (number, end) = number_upto(text, at, 4)?;
+    Some((number as u32, end))
 }
 
 // The tag at a place.
-#[tactic(auto, unfolding(spelling::specs::LedgerReading::tag_at))]
 pub fn tag_at(text: &[u8], at: usize) -> Found<u32>
     ensures { result ≡ tag_at text.now at }
 {
-    number_upto(text, at, 9)
+    let (tag, end) = number_upto(text, at, 9)?;
+    Some((u32::try_from(tag).ok()?, end))
 }
 
 // A key at a place, and the number behind it.

@@ -1,9 +1,12 @@
--- `number_at` meets its contract. A number of up to 5 digits is no larger than a tag can be. Assumes nothing.
-use mathlib.Core.Path.{◌∙◌}
+-- `number_at` meets its contract. By what was found. Assumes nothing.
+use Rattle.std.proofs.Common.{rules}
 use Rattle.spelling.specs.Fields.{number_at}
-use Rattle.spelling.proofs.NumberTrip.{number_is_tag}
 use Rattle.text.proofs.numbers.number_at.Goals as goal
+
+pub returns-in_err-number : goal.returns-in_err-number
+unfolding number_at
+returns-in_err-number c = search rules
 
 pub returns : goal.returns
 unfolding number_at
-returns c = c.number_upto.ensures ∙ number_is_tag _ _
+returns c = search rules
