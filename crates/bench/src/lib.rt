@@ -12,7 +12,7 @@ mod turns;
 use kinds::{Message, PLACES, Refusal, RoundNo, SlotNo};
 
 // The states of a bench. A number above FAILED is read as failed.
-// Words and no enum or bool, here and in `silent` and `chose`: a step promises what it does to every table of words that can be handed in (`Stepped` of crate `rounds`).
+// Words and no enum or bool, here and in `silent` and `chose`: a step promises what it does to every table of benches that can be handed in (`Stepped` of crate `rounds`).
 pub const FRESH: u32 = 0;
 
 pub const RUNNING: u32 = 1;

@@ -4,8 +4,9 @@
 #![tactic(auto)]
 
 mod answer; // answer.rt: a line's number and its answer
+pub mod bytes; // bytes.rt: whether bytes are there
 pub mod decimal; // decimal.rt: numbers
-mod totals; // totals.rt: a report's last line
+pub mod totals; // totals.rt: a report's last line
 mod writer; // writer.rt: the room, the place in it, and fixed byte strings
 
 pub use writer::Writer;

@@ -2,6 +2,8 @@
 ghost use Rattle.std.specs.Prelude.{◌≡◌, ◌+◌, leb, length, take};
 ghost use Rattle.room.specs.Writes.{Holds, Puts, Writes};
 
+use crate::bytes::has_room;
+
 #[derive(Drop)]
 pub struct Writer<'a> {
     pub room: &'a mut [u8],
@@ -13,7 +15,7 @@ impl Writer<'_> {
     pub fn has_room(&self, count: usize) -> bool
         ensures { result ≡ leb (self.now.at + count) (length self.now.room.now) }
     {
-        self.at <= self.room.len() && count <= self.room.len() - self.at
+        has_room(self.room, self.at, count)
     }
 
     // What stands before the place.

@@ -19,10 +19,7 @@ pub(crate) fn room_for(room: &[u8], answers: &Answers, n: usize) -> bool
     requires { n ≤ 67 * places + 36 }
     ensures { result ≡ leb (length (answer_lines 1 answers.now.items) + n) (length room.now) }
 {
-    if 34 * answers.len() + n <= room.len() {
-        return true;
-    }
-    answers_length(answers) + n <= room.len()
+    34 * answers.len() + n <= room.len() || answers_length(answers) + n <= room.len()
 }
 
 // How many bytes the lines of the answers have.

@@ -9,7 +9,7 @@ ghost use Rattle.kinds.specs.declared.Size.TheVariants.{Sixteen};
 ghost use Rattle.reports.specs.Reported.{Reports, length_for, room_after};
 ghost use Rattle.reports.specs.RunReport.{run_report_of};
 
-mod answers; // answers.rt: the answers' lines measured and stored
+mod answers; // answers.rt: the answers' lines measured and written
 mod benches; // benches.rt: the benches' lines
 mod playing; // playing.rt: a text played
 mod totals; // totals.rt: the lines not answered 0 counted

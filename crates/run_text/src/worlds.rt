@@ -30,7 +30,7 @@ fn comma_at(text: &[u8], at: usize) -> bool
     bytes::byte_at(text, at) == b','
 }
 
-// The world at a place: benches, strictly rising, joined by commas, at least one.
+// The world at a place: benches, strictly rising, joined by commas, at least one. A loop and no chain: it goes to the place that it answers.
 pub(crate) fn world_at(text: &[u8], from: usize, size: Size) -> Found<u32>
     ensures { result ≡ world_at (benches_of size) text.now from }
 {
