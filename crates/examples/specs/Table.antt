@@ -1,4 +1,4 @@
--- The worked examples of docs/SCOPE.md as one table, with cases of who counts in a slot and an early leaver, over the definitions of steps, text and ledger.
+-- The worked examples P1 to P10 of docs/SCOPE.md as one table, with cases of who counts in a slot and an early leaver, over the definitions of steps, text and ledger.
 -- This file is to be believed: `examples` of proofs/Table.antt says that the table holds. A world is written in binary: 0b011 is benches 1 and 2.
 -- Where an example is silent, values are 5 and all benches are in the world.
 use Rattle.std.specs.Prelude.{ℕ, Bool, true, false, ◌&&◌, List, [], ◌∷◌, ◌++◌, map, eqb}
@@ -78,29 +78,29 @@ kept a = keeps a 0
 
 unfoldable pub table : List (List Line)
 table =
-    -- a bench alone decides in round 1
+    -- P1: a bench alone decides in round 1
     (ok (start 1 5 0b1) ∷ ok (turn 1) ∷ decides' 1 1 5 ∷ [])
-    -- two that agree decide in round 1
+    -- P2: two that agree decide in round 1
     ∷ (ok (start 1 4 0b11) ∷ ok (start 2 4 0b11) ∷ ok (arrive 1 2) ∷ ok (arrive 2 1) ∷ ok (turn 1) ∷ ok (turn 2) ∷ decides' 1 1 4 ∷ decides' 2 1 4 ∷ [])
-    -- a world that is wider than the bench's own takes it to round 2
+    -- P3: a world that is wider than the bench's own takes it to round 2
     ∷ (ok (start 1 4 0b11) ∷ ok (start 2 4 0b111) ∷ ok (abstain 3) ∷ ok (arrive 1 2) ∷ ok (arrive 2 1) ∷ ok (arrive 2 3) ∷ ok (arrive 1 3)
     ∷ ok (turn 2) ∷ decides' 2 1 4 ∷ ok (turn 1) ∷ stands 1 2 4 0b11 ∷ ok (arrive 1 2) ∷ ok (turn 1) ∷ decides' 1 2 4 ∷ [])
-    -- whoever leaves is heard out: the lesser value is taken
+    -- P4: whoever leaves is heard out: the lesser value is taken
     ∷ (ok (start 1 9 0b11) ∷ ok (start 2 4 0b11) ∷ ok (leave 2) ∷ ok (arrive 1 2) ∷ ok (arrive 1 2) ∷ ok (turn 1) ∷ stands 1 2 4 0b11 ∷ ok (turn 1) ∷ decides' 1 2 4 ∷ [])
-    -- one fails, whom one bench has heard and the other misses
+    -- P5: one fails, whom one bench has heard and the other misses
     ∷ (ok (start 1 7 0b111) ∷ ok (start 2 7 0b111) ∷ ok (start 3 3 0b111) ∷ ok (fail 3) ∷ ok (arrive 1 3) ∷ ok (notice 2 3) ∷ ok (arrive 1 2) ∷ ok (arrive 2 1)
     ∷ ok (turn 1) ∷ ok (turn 2) ∷ stands 1 2 3 0b111 ∷ stands 2 2 7 0b11 ∷ ok (notice 1 3) ∷ ok (arrive 1 2) ∷ ok (arrive 2 1)
     ∷ ok (turn 1) ∷ ok (turn 2) ∷ stands 1 3 3 0b11 ∷ stands 2 3 3 0b11 ∷ ok (arrive 1 2) ∷ ok (arrive 2 1) ∷ ok (turn 1) ∷ ok (turn 2) ∷ decides' 1 3 3 ∷ decides' 2 3 3 ∷ [])
-    -- worlds that lack a bench, or that a bench's own lacks
+    -- P6: worlds that lack a bench, or that a bench's own lacks
     ∷ (ok (start 1 5 0b1) ∷ does (start 2 5 0b11) 7 ∷ does (start 2 5 0b10) 6 ∷ [])
-    -- notices and arrivals that are refused
+    -- P7: notices and arrivals that are refused
     ∷ (ok (start 1 5 0b11) ∷ ok (start 2 5 0b11) ∷ does (notice 1 2) 10 ∷ ok (arrive 1 2) ∷ does (arrive 1 2) 8 ∷ ok (fail 2) ∷ ok (notice 1 2) ∷ does (arrive 1 2) 9 ∷ [])
-    -- values and spellings at their limits
+    -- P8: values and spellings at their limits
     ∷ (reads "step=start bench=1 value=65536 world=1" 4 ∷ reads "step=start bench=1 value=65535 world=1" 0 ∷ reads "step=turn bench=017" 20 ∷ reads "step=turn bench=17" 1 ∷ [])
-    -- a hand-out: senders in rising number, each in order of arrival; tags a, b, c are 97, 98, 99
+    -- P9: a hand-out: senders in rising number, each in order of arrival; tags a, b, c are 97, 98, 99
     ∷ (kept (ledger.join 1 0) ∷ kept (ledger.join 2 0) ∷ kept (ledger.sweep 2 97) ∷ kept (ledger.sweep 1 98) ∷ kept (ledger.sweep 1 99) ∷ kept (ledger.close 1) ∷ kept (ledger.close 1) ∷ kept (ledger.close 2) ∷ kept (ledger.close 2)
     ∷ hands (98 ∷ 99 ∷ 97 ∷ []) ∷ [])
-    -- ends: above the open slot, at it, and once more
+    -- P10: ends: above the open slot, at it, and once more
     ∷ (kept (ledger.join 1 0) ∷ kept (ledger.close 1) ∷ keeps (ledger.end 1 2) 18 ∷ kept (ledger.end 1 1) ∷ keeps (ledger.end 1 1) 16 ∷ [])
     -- laptop 2 has closed 30 and 30 does not go out before 31 is closed, so that its end at 30 is done
     ∷ (begins 30 ∷ kept (ledger.join 2 30) ∷ kept (ledger.join 4 30) ∷ kept (ledger.sweep 2 7) ∷ kept (ledger.sweep 4 8) ∷ kept (ledger.close 2) ∷ kept (ledger.close 4)

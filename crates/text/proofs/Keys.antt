@@ -72,7 +72,7 @@ line_prefix : (l : List ℕ) → line_length l ≡ position_or_len (λ c. eqb c 
 unfolding line_length
 line_prefix l = is_position_or_len line_length (λ c. eqb c 10) refl (λ c l. ap (cond (eqb c 10) 0) (omega arith)) l
 
-pub failed : (c : Bool) → (c ≡ true → ⊥) → c ≡ false
+failed : (c : Bool) → (c ≡ true → ⊥) → c ≡ false
 failed true n = absurd (n refl)
 failed false n = refl
 
