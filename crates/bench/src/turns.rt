@@ -5,7 +5,7 @@ ghost use Rattle.kinds.specs.Sizes.{benches_of, places};
 ghost use Rattle.bench.specs.Turns.{awaited_at, awaits_of, forbids_at, forbids_of, gather_of, refuses, concludes, next_round, go_on_of, turn_of};
 
 use crate::{Bench, DECIDED, Entry, Heard, RUNNING, Turn, Turned};
-use kinds::{DEPTH, Message, Refusal, RoundMessage, RoundNo, Size, SlotNo};
+use kinds::{DEPTH, Message, Refusal, RoundMessage, RoundNo, Size};
 use sets::{benches_of, has};
 
 impl Bench {
@@ -46,17 +46,14 @@ impl Bench {
         ensures { result ≡ gather_of (benches_of size) self.now h.now }
     {
         let both = self.world & h.set;
-        let mut value = self.value.0;
+        let mut value = self.value;
         let n = benches_of(size) as usize;
         for k in 0..n {
             if has(both, k) {
-                value = value.min(h.entries[k].value.0);
+                value = value.min(h.entries[k].value);
             }
         }
-        Entry {
-            value: SlotNo(value),
-            world: both,
-        }
+        Entry { value, world: both }
     }
 
     // Whether place k is a member that is awaited: not heard, no OUT has come, no failure is noticed.
@@ -81,7 +78,7 @@ impl Bench {
             return !has(self.outs, k);
         }
         let Entry { value, world } = h.entries[k];
-        value.0 != self.value.0 || (world & self.world) != world
+        value != self.value || (world & self.world) != world
     }
 
     fn refused(self, refusal: Refusal) -> Turned

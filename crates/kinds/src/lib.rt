@@ -19,15 +19,15 @@ pub const PLACES: usize = 16;
 pub const DEPTH: usize = 64;
 
 // A bench or a sender; those of a run are 1 to as many as its size says.
-#[derive(Clone, Copy)]
+#[derive(Clone, Copy, Debug, PartialEq, Eq, PartialOrd, Ord)]
 pub struct BenchNo(pub u32);
 
 // A slot, which is also what a bench proposes and decides.
-#[derive(Clone, Copy)]
+#[derive(Clone, Copy, Debug, PartialEq, Eq, PartialOrd, Ord)]
 pub struct SlotNo(pub u32);
 
 // A round; the first is 1.
-#[derive(Clone, Copy)]
+#[derive(Clone, Copy, Debug, PartialEq, Eq, PartialOrd, Ord)]
 pub struct RoundNo(pub u32);
 
 // An answer's number, as docs/REFUSALS.md lists them: 0, done, or a refusal's. A caller that keeps the answers of 65,536 lines keeps these, a byte each.

@@ -16,7 +16,7 @@ pub(crate) fn may_join(row: Row, next: SlotNo, first: SlotNo) -> Result<(), Refu
     if row.has_joined() {
         return Err(Refusal::JoinedAlready);
     }
-    if first.0 < next.0 || LAST_SLOT < first.0 {
+    if first < next || LAST_SLOT < first.0 {
         return Err(Refusal::WrongFirstSlot);
     }
     Ok(())
@@ -55,10 +55,10 @@ pub(crate) fn may_end(row: Row, next: SlotNo, slot: SlotNo) -> Result<(), Refusa
     if !row.is_open() {
         return Err(Refusal::EndedAlready);
     }
-    if row.open_slot().0 < slot.0 {
+    if row.open_slot() < slot {
         return Err(Refusal::EndAboveOpen);
     }
-    if slot.0 < next.0 {
+    if slot < next {
         return Err(Refusal::EndBelowNext);
     }
     Ok(())

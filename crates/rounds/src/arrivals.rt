@@ -63,7 +63,7 @@ fn two_places(
 {
     let k = TablePlace::of(bench, size)?;
     let j = TablePlace::of(from, size)?;
-    if bench.0 == from.0 {
+    if bench == from {
         Err(Refusal::SameBench)
     } else {
         Ok((k, j))

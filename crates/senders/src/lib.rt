@@ -132,8 +132,8 @@ impl Row {
     {
         match self {
             Row::Unknown => false,
-            Row::Joined { first, .. } => first.0 <= n.0,
-            Row::Ended { first, end, .. } => first.0 <= n.0 && n.0 < end.0,
+            Row::Joined { first, .. } => first <= n,
+            Row::Ended { first, end, .. } => first <= n && n < end,
         }
     }
 
@@ -141,7 +141,7 @@ impl Row {
     pub fn done_with(self, n: SlotNo) -> bool
         ensures { result ≡ done_with n.0 (row_is self) }
     {
-        !self.is_member(n) || n.0 < self.open_slot().0
+        !self.is_member(n) || n < self.open_slot()
     }
 
     // The row after a close: the next slot is open.
