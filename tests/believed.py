@@ -1,8 +1,8 @@
 #!/usr/bin/env python3
 """The list of what must be believed is closed: docs/THEOREMS.md lists just the definition files that its theorems and the public promises rest on.
 
-Of every theorem of docs/THEOREMS.md (but for the sections that only serve other proofs) the statement is taken, of every public function its promise, and each
-name in them is followed to its definition, and from there on, as far as our own files go. Each file that is reached must be listed there: under 'What must be
+Of every theorem of docs/THEOREMS.md (but for the sections that only serve other proofs) the statement is taken, of every public function its promise, of every
+trait and impl its laws, and each name in them is followed to its definition, and from there on, as far as our own files go. Each file that is reached must be listed there: under 'What must be
 believed', with its lines and the reason why it is believed, or under 'Settled by theorems', with the theorems that say in believed words all that counts of it. A
 file that is listed and not reached is a fault; so is a definition that a theorem is stated by and that stands in a proof, and a public function that asks something of its caller.
 
@@ -10,6 +10,7 @@ file that is listed and not reached is a fault; so is a definition that a theore
 """
 import re
 import sys
+import textwrap
 from pathlib import Path
 
 TOP = Path(__file__).resolve().parent.parent
@@ -176,25 +177,56 @@ def functions(text):
         yield found[1].strip(), found[2], asks, " ".join(said)
 
 
+def parts(text):
+    """A source cut into its top and its blocks: the words that open each impl, trait or type, and what stands there. Names that a block brings in are its own."""
+    blocks = re.compile(r"^((?:pub )?(?:impl|trait|struct|enum)\b[^;{}]*)\{\n(.*?)^\}$", re.M | re.S)
+    yield "", blocks.sub("", text)
+    for found in blocks.finditer(text):
+        yield found[1].strip(), textwrap.dedent(found[2])
+
+
+def laws(text):
+    """The ghost items of a trait, an impl or a type: the name, whether it is given here (`=`) or stated (`:`), and the clause."""
+    for found in re.finditer(r"^(?:pub )?ghost (?!use\b)(\w+)(:| =) \{", text, re.M):
+        yield found[1], found[2] == " =", text[found.end():closed(text, found.end()) - 1]
+
+
+def named(clause, names, modules):
+    """The declarations of our files that a clause names."""
+    for token in re.findall(rf"{NAME}(?:\.{NAME})?", clause):
+        alias, _, rest = token.partition(".")
+        if token in names or alias in names:
+            yield names.get(token, names.get(alias))
+        elif rest and alias in modules:
+            yield modules[alias], rest
+
+
 def promises():
-    """What the promises of public functions name, each with the function."""
-    goals, count = [], 0
+    """What is named by the promises of public functions, by the laws of traits and impls, and by what types carry, each with its place."""
+    said, proved, count = [], set(), 0
     for source in sorted(CRATES.glob("*/src/*.rt")):
-        text = source.read_text()
-        names, modules = scope(text, "ghost use")
-        for public, name, asks, said in functions(text):
-            if public != "pub":
-                continue
-            count += 1
-            if asks:
-                fault(source, f"the public function {name} asks something of its caller")
-            for token in re.findall(rf"{NAME}(?:\.{NAME})?", said):
-                alias, _, rest = token.partition(".")
-                if token in names or alias in names:
-                    goals.append((*names.get(token, names.get(alias)), [f"{source.parent.parent.name}::{name}"]))
-                elif rest and alias in modules:
-                    goals.append((modules[alias], rest, [f"{source.parent.parent.name}::{name}"]))
-    return goals, count
+        text, crate, brought = source.read_text(), source.parent.parent.name, 0
+        top = {}, {}
+        for opening, part in parts(text):
+            own = scope(part, "ghost use")
+            brought += len(re.findall(r"^ghost use ", part, re.M))
+            names, modules = {**top[0], **own[0]}, {**top[1], **own[1]}
+            top = top if opening else (names, modules)
+            for name, given, clause in laws(part):
+                goals = list(named(clause, names, modules))
+                said.append((crate, name, given, goals))
+                # what a trait of ours states in our words is a law, and each impl gives its proof
+                proved |= {name} if goals and opening.startswith("pub trait") else set()
+            for public, name, asks, clause in functions(part):
+                if public != "pub" and not opening.startswith("pub trait"):
+                    continue
+                count += 1
+                if asks:
+                    fault(source, f"the public function {name} asks something of its caller")
+                said.append((crate, name, False, list(named(clause, names, modules))))
+        if brought != len(re.findall(r"^\s*ghost use ", text, re.M)):
+            fault(source, "a `ghost use` stands where no promise is looked for")
+    return [(*goal, [f"{crate}::{name}"]) for crate, name, given, goals in said if not (given and name in proved) for goal in goals], count
 
 
 def listed(title):
