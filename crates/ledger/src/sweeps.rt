@@ -1,5 +1,5 @@
 // The sweeps of the room: the first of a slot, and a part of them taken out.
-ghost use Rattle.std.specs.Prelude.{◌≡◌, [], false, ◌||◌, ◌≤◌, length};
+ghost use Rattle.std.specs.Prelude.{◌≡◌, [], false, ◌||◌, ◌<◌, ◌≤◌, length};
 ghost use Rattle.std.specs.List.{fold, position_or_len};
 ghost use Rattle.book.specs.Book.{only};
 ghost use Rattle.ledger.specs.Seen.{held_in};
@@ -7,10 +7,6 @@ ghost use Rattle.ledger.specs.Sweeps.{of_slot, Gone, Tests, TakesOut};
 
 use crate::Sweep;
 use kinds::SlotNo;
-
-// How many sweeps are compared at once, without a branch between: the compiler makes vector code of it. By 32 a slot that a full room does not
-// have is looked for in 1.8 instructions a sweep, by 8 in 2.4.
-const BLOCK: usize = 32;
 
 impl Sweep {
     pub(crate) fn is_of(self, slot: SlotNo) -> bool
@@ -20,17 +16,21 @@ impl Sweep {
     }
 }
 
-// The place of the first sweep of the slot, or how many there are: they are passed by blocks, then one by one.
+// The place of the first sweep of the slot, or how many there are: they are passed by blocks of 32, then of 8, then one by one. A block's sweeps are
+// compared without a branch between, in vector code: a slot that a full room does not have is looked for in 1.8 instructions a sweep by 32 and in
+// 2.4 by 8, and a rest of up to 31 is passed by 8 in half of what it takes one by one.
 pub(crate) fn skipped(sweeps: &[Sweep], slot: SlotNo) -> usize
     ensures within { result ≤ length sweeps.now }
     ensures first { result ≡ position_or_len (of_slot slot.0) sweeps.now }
 {
-    let passed = passed_blocks(sweeps, slot);
-    passed + passed_ones(&sweeps[passed..], slot)
+    let far = passed_blocks::<32>(sweeps, slot);
+    let near = far + passed_blocks::<8>(&sweeps[far..], slot);
+    near + passed_ones(&sweeps[near..], slot)
 }
 
 // How many sweeps stand in the blocks before the first one that has a sweep of the slot.
-fn passed_blocks(sweeps: &[Sweep], slot: SlotNo) -> usize
+fn passed_blocks<const BLOCK: usize>(sweeps: &[Sweep], slot: SlotNo) -> usize
+    requires { 0 < BLOCK }
     ensures within { result ≤ length sweeps.now }
     ensures none { result ≤ position_or_len (of_slot slot.0) sweeps.now }
 {

@@ -11,13 +11,13 @@ use Rattle.ledger.proofs.Searching.{block_passed, block_dropped}
 use Rattle.ledger.proofs.sweeps.passed_blocks.Goals as goal
 
 pub loop-block-init : goal.loop-block-init
-loop-block-init c =
+loop-block-init g c =
     let same = c.into_iter-block-iterator.ensures.into_iter_gives in
     let cut = c.chunks_exact-block-items.ensures in
     (omega arith, omega arith, ap chunks_exact_size same ∙ cut.size, ap chunks_exact_rest same ∙ cut.rest)
 
 pub loop-block-preserved : goal.loop-block-preserved
-loop-block-preserved c =
+loop-block-preserved g c =
     let xs = c.args.sweeps.now in
     let inv = c.loop-block.invariant in
     let next = c.in-Some.ensures.steps in

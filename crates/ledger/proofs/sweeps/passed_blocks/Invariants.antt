@@ -8,5 +8,5 @@ use Rattle.ledger.specs.Sweeps.{of_slot}
 use Rattle.ledger.proofs.sweeps.passed_blocks.Given as goal
 
 abbrev pub invariant-loop-block : goal.invariant-loop-block
-invariant-loop-block l =
-    (l.passed ≤ length l.sweeps) × (l.passed ≤ position_or_len (of_slot l.slot.0) l.sweeps) × (chunks_exact_size l.block-iterator ≡ 32) × (chunks_exact_rest l.block-iterator ≡ drop l.passed l.sweeps)
+invariant-loop-block g l =
+    (l.passed ≤ length l.sweeps) × (l.passed ≤ position_or_len (of_slot l.slot.0) l.sweeps) × (chunks_exact_size l.block-iterator ≡ g.row.BLOCK) × (chunks_exact_rest l.block-iterator ≡ drop l.passed l.sweeps)
