@@ -4,7 +4,8 @@
 - every link of a Markdown file leads to a file;
 - docs/THEOREMS.md lists exactly the files that say of themselves that they are to be believed, with their lines, and every theorem that it names is stated;
 - every line of a statement that a page quotes (a block marked antt) stands so in a file of definitions or laws;
-- docs/PROMISES.md has every public function, under its crate, and every must-fail edit of a crate that has functions; the edits that it names are there;
+- docs/PROMISES.md has every public function, under its crate, every must-fail edit of code, and those of definitions but for
+  the crates that hold little else; the edits that it names are there;
 - `./funkenrille explain` prints every entry of docs/REFUSALS.md, which has 0 to 25 in rising order, and no other number.
 
 Works from any folder.
@@ -16,7 +17,8 @@ from pathlib import Path
 
 TOP = Path(__file__).resolve().parent.parent
 CRATES = TOP / "crates"
-WITHOUT_FUNCTIONS = ("common", "published", "kinds", "tables", "book", "spelling", "reports", "examples")
+# Their edits are of definitions, but for those of a function of theirs, and too many to be named one by one.
+DEFINITIONS = ("common", "published", "tables", "book", "spelling", "reports", "examples")
 faults = []
 
 
@@ -99,7 +101,7 @@ def promises():
                 fault(page, f"has no row for {crate}::{name}")
     for edit in edit_files:
         crate = edit.parts[-3]
-        if crate not in WITHOUT_FUNCTIONS and not re.search(rf"[`/]{edit.stem}`", page.read_text()):
+        if (crate not in DEFINITIONS or "\nfile: src/" in edit.read_text()) and not re.search(rf"[`/]{edit.stem}`", page.read_text()):
             fault(page, f"does not name the edit {crate}/{edit.stem}")
     known = edits | functions | declared()
     for row in re.findall(r"^\|.*\|$", page.read_text(), re.M):

@@ -15,7 +15,7 @@ use std::io::{Read, Write};
 use std::{fmt, io};
 
 // One byte more than a text may have, to see that it is too long.
-const INPUT: usize = LONGEST + 1;
+pub const INPUT: usize = LONGEST + 1;
 
 // The bytes of a refusal's line, with the most digits that a number of 8 bits has.
 const REFUSAL_LINE: usize = 12;
