@@ -15,6 +15,7 @@ use Rattle.common.specs.Checks.{Holds, nothing, also, Fails, here, later}
 use Rattle.kinds.specs.declared.Refusal.{Refusal}
 use Rattle.kinds.specs.declared.Refusal.TheVariants.{PastLastSlot, NotClosed, ShortRoom}
 use Rattle.kinds.specs.Refusals.{number_of}
+use Rattle.kinds.proofs.Refusals.{never_done}
 use Rattle.book.specs.Book.{last_out, Row, all_closed, may_go, tags_of, advanced, hand_out, checks, answer, after}
 use Rattle.ledger.specs.declared.Cursor.{Cursor}
 use Rattle.ledger.specs.declared.Ledger.{Ledger}
@@ -24,7 +25,6 @@ use Rattle.ledger.specs.Advancing.{advanced_of}
 use Rattle.ledger.specs.Sweeps.{of_slot, NoneOf, TakesOut}
 use Rattle.ledger.specs.Promises.{Hands, cursor_of, cursor_after, joined_after, rows_after, laid}
 use Rattle.book.proofs.Outcomes.{step_fails, step_holds}
-use Rattle.ledger.proofs.Refused.{number_positive}
 use Rattle.ledger.proofs.Told.{refused, done, held_min}
 use Rattle.ledger.proofs.Searching.{none_before}
 use Rattle.ledger.proofs.Seats.{tags_past, held_parts, held_front}
@@ -39,7 +39,7 @@ module _ (n : ℕ) (x : Ledger) (out : List ℕ) where
   unfolding answer laid
   refused_hands e f =
       let is = step_fails n (book_of x) (hand_out (length out)) (number_of e) f in
-      record { tells = refused n x (hand_out (length out)) (number_of e) (ne_eqb (number_of e) 0 (λ z. absurd (omega (arith, number_positive e)))) f; count_is = tt; out_is = rw is }
+      record { tells = refused n x (hand_out (length out)) (number_of e) (ne_eqb (number_of e) 0 (never_done e)) f; count_is = tt; out_is = rw is }
 
   pub hand_17 : last_out < next_by x → Hands n x out (Err PastLastSlot) x out
   unfolding checks book_of
