@@ -23,7 +23,7 @@ pub const LAST_OUT: u32 = 65533;
 pub const ROOM: usize = 1024;
 
 // Where the ledger stands: the next slot to hand out, and how many sweeps are held.
-#[derive(Clone, Copy)]
+#[derive(Clone, Copy, Debug, Default, PartialEq, Eq, PartialOrd, Ord, Hash)]
 pub struct Cursor {
     pub next: SlotNo,
     pub held: u32,
@@ -47,7 +47,7 @@ impl Cursor {
 }
 
 // A sweep that is held. Its numbers are as narrow as they can be, so that the room is 8 KiB and the slots are soon compared.
-#[derive(Clone, Copy)]
+#[derive(Clone, Copy, Debug, Default, PartialEq, Eq, PartialOrd, Ord, Hash)]
 pub struct Sweep {
     pub sender: u16,
     pub slot: u16,
@@ -55,7 +55,7 @@ pub struct Sweep {
 }
 
 // The first places of the room have the sweeps held, in order of arrival; the others say nothing.
-#[derive(Clone, Copy)]
+#[derive(Clone, Copy, Debug, Default, PartialEq, Eq, PartialOrd, Ord, Hash)]
 pub struct Ledger {
     pub cursor: Cursor,
     pub senders: Senders,
