@@ -29,7 +29,7 @@ pub const FAILED: u32 = 5;
 // Sets of benches hold bench i as bit i - 1: `world`, `outs` (whose OUT it has taken) and `noticed`.
 // sent: the last round sent, or 0. silent: 1 once it has sent OUT. chose: 1 once it has decided on `value`.
 // taken: how many round messages it has taken of each bench, its own included.
-#[derive(Clone, Copy)]
+#[derive(Clone, Copy, Debug, Default, PartialEq, Eq, PartialOrd, Ord, Hash)]
 pub struct Bench {
     pub state: u32,
     pub round: RoundNo,
@@ -44,7 +44,7 @@ pub struct Bench {
 }
 
 // What a bench says in a round.
-#[derive(Clone, Copy)]
+#[derive(Clone, Copy, Debug, Default, PartialEq, Eq, PartialOrd, Ord, Hash)]
 pub struct Entry {
     pub value: SlotNo,
     pub world: u32,

@@ -23,11 +23,11 @@ pub const DEPTH: usize = 64;
 pub struct BenchNo(pub u32);
 
 // A slot, which is also what a bench proposes and decides.
-#[derive(Clone, Copy, Debug, PartialEq, Eq, PartialOrd, Ord)]
+#[derive(Clone, Copy, Debug, Default, PartialEq, Eq, PartialOrd, Ord, Hash)]
 pub struct SlotNo(pub u32);
 
 // A round; the first is 1.
-#[derive(Clone, Copy, Debug, PartialEq, Eq, PartialOrd, Ord)]
+#[derive(Clone, Copy, Debug, Default, PartialEq, Eq, PartialOrd, Ord, Hash)]
 pub struct RoundNo(pub u32);
 
 // An answer's number, as docs/REFUSALS.md lists them: 0, done, or a refusal's. A caller that keeps the answers of 65,536 lines keeps these, a byte each.

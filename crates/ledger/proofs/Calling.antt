@@ -3,11 +3,11 @@
 use mathlib.Core.Path.{◌≡◌, refl, ap, sym, ◌∙◌}
 use Prim.Native.Nat.{ℕ}
 use mathlib.Core.List.{List, [], ◌∷◌, ◌++◌}
-use native.Mathlib.Omega.{arith}
 use lib.ListN.{length}
 use Rattle.std.specs.Prelude.{Result, Ok, Err, IfOk}
 use Rattle.kinds.specs.declared.Refusal.{Refusal}
 use Rattle.kinds.specs.Refusals.{answer_of}
+use Rattle.kinds.proofs.Refusals.{never_done}
 use Rattle.ledger.specs.declared.Ledger.{Ledger}
 use Rattle.book.specs.Book.{Step, hand_out, answer, step}
 use Rattle.book.specs.Traffic.{book_from, answers_from, tags_from}
@@ -16,7 +16,6 @@ use Rattle.ledger.specs.Promises.{Tells, Hands, laid}
 use Rattle.ledger.specs.Calls.{written_in, Call, joins, sweeps, closes, ends, hands, Calls, none, more}
 use Rattle.book.proofs.Outcomes.{refused_same, join_ind, sweep_ind, close_ind, end_ind}
 use Rattle.ledger.proofs.Laid.{laid_front}
-use Rattle.ledger.proofs.Refused.{number_positive}
 use Rattle.ledger.proofs.Made.{Made, made_step}
 
 -- ---- one call
@@ -32,7 +31,7 @@ call_tells n x s r t y (hands _ _ _ _ p) = p.tells
 written_is : (r : Result ℕ Refusal) (tags out : List ℕ) → IfOk r (λ k. k ≡ length tags) → ((answer_of r ≡ 0 → ⊥) → tags ≡ []) → written_in r (laid tags out) ≡ tags
 unfolding written_in
 written_is (Ok k) tags out e f = laid_front tags out k (sym e)
-written_is (Err r) tags out e f = sym (f (λ z. absurd (omega (arith, z, number_positive r))))
+written_is (Err r) tags out e f = sym (f (never_done r))
 
 hands_tags : (n : ℕ) (x : Ledger) (out : List ℕ) (r : Result ℕ Refusal) (y : Ledger) (out' : List ℕ) → Hands n x out r y out' → written_in r out' ≡ (step n (book_of x) (hand_out (length out))).tags
 hands_tags n x out r y out' p =

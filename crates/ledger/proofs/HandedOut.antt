@@ -3,7 +3,7 @@
 use mathlib.Core.Path.{◌≡◌, refl, ap, sym, ◌∙◌}
 use Prim.Native.Nat.{ℕ, suc, ◌+◌, ◌-◌, ◌≤◌, ◌<◌, min}
 use mathlib.Core.Bool.{Bool, true, false, ◌&&◌}
-use mathlib.Core.List.{List, map}
+use mathlib.Core.List.{List, [], map}
 use native.Mathlib.Numerals.{add-one}
 use native.Mathlib.Omega.{arith}
 use lib.ListN.{length, take, drop}
@@ -15,7 +15,8 @@ use Rattle.common.specs.Checks.{Holds, nothing, also, Fails, here, later}
 use Rattle.kinds.specs.declared.Refusal.{Refusal}
 use Rattle.kinds.specs.declared.Refusal.TheVariants.{PastLastSlot, NotClosed, ShortRoom}
 use Rattle.kinds.specs.Refusals.{number_of}
-use Rattle.book.specs.Book.{last_out, Row, all_closed, may_go, tags_of, advanced, hand_out, checks, answer, after}
+use Rattle.kinds.proofs.Refusals.{never_done}
+use Rattle.book.specs.Book.{last_out, only, Row, all_closed, may_go, tags_of, advanced, hand_out, checks, answer, after}
 use Rattle.ledger.specs.declared.Cursor.{Cursor}
 use Rattle.ledger.specs.declared.Ledger.{Ledger}
 use Rattle.ledger.specs.declared.Sweep as code
@@ -24,10 +25,10 @@ use Rattle.ledger.specs.Advancing.{advanced_of}
 use Rattle.ledger.specs.Sweeps.{of_slot, NoneOf, TakesOut}
 use Rattle.ledger.specs.Promises.{Hands, cursor_of, cursor_after, joined_after, rows_after, laid}
 use Rattle.book.proofs.Outcomes.{step_fails, step_holds}
-use Rattle.ledger.proofs.Refused.{number_positive}
 use Rattle.ledger.proofs.Told.{refused, done, held_min}
 use Rattle.ledger.proofs.Searching.{none_before}
-use Rattle.ledger.proofs.Seats.{tags_past, held_parts, held_front}
+use Rattle.ledger.proofs.Seats.{tags_past, none_tags, held_parts, held_front}
+use Rattle.ledger.proofs.Compacting.{compacting_none, compacting_out}
 
 -- the slot after, as the code counts it
 pub may_is : (n k : ℕ) (rows : ℕ → Row) (t v : Bool) → t ≡ (all_closed n k rows && all_closed n (k + 1) rows) → t ≡ v → may_go n k rows ≡ v
@@ -39,7 +40,7 @@ module _ (n : ℕ) (x : Ledger) (out : List ℕ) where
   unfolding answer laid
   refused_hands e f =
       let is = step_fails n (book_of x) (hand_out (length out)) (number_of e) f in
-      record { tells = refused n x (hand_out (length out)) (number_of e) (ne_eqb (number_of e) 0 (λ z. absurd (omega (arith, number_positive e)))) f; count_is = tt; out_is = rw is }
+      record { tells = refused n x (hand_out (length out)) (number_of e) (ne_eqb (number_of e) 0 (never_done e)) f; count_is = tt; out_is = rw is }
 
   pub hand_17 : last_out < next_by x → Hands n x out (Err PastLastSlot) x out
   unfolding checks book_of
@@ -91,3 +92,11 @@ module _ (n : ℕ) (x : Ledger) (out : List ℕ) where
             count_is = rw (e, tags) written.0;
             out_is = rw (e, tags) written.2;
           }
+
+      pub hand_none : from ≡ held → (c : Cursor) → c ≡ advanced_of x.cursor held → Hands n x out (Ok 0) (record { cursor = c; senders = x.senders; room = x.room }) out
+      unfolding laid only
+      hand_none passed c ic =
+          let z : held - from ≡ 0 = omega arith in
+          let none : tags_of n (next_by x) (map sweep_is sweeps) ≡ [] = none_tags n (next_by x) (map sweep_is sweeps) (rw z refl) in
+          let stays = compacting_out (λ w. eqb w.slot (next_by x)) x.room held x.room held (compacting_none (λ w. eqb w.slot (next_by x)) x.room held (omega arith) (rw passed at none_passed)) in
+          hand_done 0 out (sym (ap length none), omega arith, rw none refl) held x.room stays c ic

@@ -5,9 +5,10 @@ use Prim.Native.Nat.{ℕ}
 use mathlib.Core.List.{List, []}
 use lib.ListN.{length}
 use borrow.Author.Tests.{ne_eqb}
-use Rattle.std.specs.Prelude.{Result}
+use Rattle.std.specs.Prelude.{Result, Err}
 use Rattle.kinds.specs.declared.Refusal.{Refusal}
-use Rattle.kinds.specs.Refusals.{answer_of}
+use Rattle.kinds.specs.Refusals.{number_of, answer_of}
+use Rattle.kinds.proofs.Refusals.{never_done}
 use Rattle.ledger.specs.declared.Ledger.{Ledger}
 use Rattle.book.specs.Book.{Step, hand_out, step}
 use Rattle.ledger.specs.Seen.{book_of}
@@ -24,6 +25,10 @@ module _ (n : ℕ) (x : Ledger) (s : Step) (r : ℕ) (x' : Ledger) (a : Tells n 
 
   pub refused_keeps : x' ≡ x
   refused_keeps = settles.one_content n x s r r x' x a stays
+
+-- the same of what code answers: of an Err
+pub refused_step_keeps : (n : ℕ) (x : Ledger) (s : Step) (e : Refusal) (x' : Ledger) → Tells n x s (answer_of {A = Unit {0}} (Err e)) x' → x' ≡ x
+refused_step_keeps n x s e x' a = refused_keeps n x s (number_of e) x' a (never_done e)
 
 -- and of a hand-out the receiving buffer too
 pub refused_keeps_out : (n : ℕ) (x : Ledger) (out : List ℕ) (r : Result ℕ Refusal) (x' : Ledger) (out' : List ℕ) → Hands n x out r x' out' → (answer_of r ≡ 0 → ⊥) → (x' ≡ x) × (out' ≡ out)

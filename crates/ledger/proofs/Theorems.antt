@@ -9,6 +9,8 @@ use Rattle.published.specs.Rounds as rounds
 use Rattle.published.specs.Rounds.{find, found, chosen, run_from, new_run}
 use Rattle.std.specs.Prelude.{Result}
 use Rattle.kinds.specs.declared.Refusal.{Refusal}
+use Rattle.kinds.specs.Refusals.{answer_of}
+use Rattle.kinds.proofs.Refusals.{same_result}
 use Rattle.ledger.specs.declared.Ledger.{Ledger}
 use Rattle.book.specs.Book.{last_slot, most_held, Sweep, tags_of, joined, all_closed, may_go, Book, new_book, Step, end, answer, step}
 use Rattle.book.specs.Traffic.{book_from, answers_from, tags_from, accepted, dropped, handed_out, in_order, along, tally}
@@ -36,6 +38,10 @@ use Rattle.ledger.proofs.Settles as settles
 -- Of join, sweep, close and end: one number, and one content of the ledger.
 pub one_answer : (n : ℕ) (x : Ledger) (s : Step) (r q : ℕ) (y z : Ledger) → Tells n x s r y → Tells n x s q z → (r ≡ q) × (y ≡ z)
 one_answer n x s r q y z a c = (settles.one_number n x s r q y z a c, settles.one_content n x s r q y z a c)
+
+-- The same of what code answers: one result, and so one refusal.
+pub one_result : (n : ℕ) (x : Ledger) (s : Step) (r q : Result (Unit {0}) Refusal) (y z : Ledger) → Tells n x s (answer_of r) y → Tells n x s (answer_of q) z → (r ≡ q) × (y ≡ z)
+one_result n x s r q y z a c = let e = one_answer n x s (answer_of r) (answer_of q) y z a c in (same_result r q e.0, e.1)
 
 -- Of hand out: the same, and one content of the receiving buffer.
 pub one_hand_out : (n : ℕ) (x : Ledger) (out : List ℕ) (r q : Result ℕ Refusal) (y z : Ledger) (o p : List ℕ) → Hands n x out r y o → Hands n x out q z p → (r ≡ q) × (y ≡ z) × (o ≡ p)

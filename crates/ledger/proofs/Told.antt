@@ -23,6 +23,7 @@ use Rattle.common.proofs.Updates.{put_same}
 use Rattle.common.proofs.Checks.{first_check, other_checks}
 use Rattle.kinds.specs.declared.Refusal.{Refusal}
 use Rattle.kinds.specs.Refusals.{number_of}
+use Rattle.kinds.proofs.Refusals.{never_done}
 use Rattle.book.specs.Book as book
 use Rattle.book.specs.Book.{last_slot, Sweep, Row, has_joined, is_open, first_slot, open_slot, with_row, swept, cut, Step, join, sweep, close, end, answer, checks, after, step}
 use Rattle.senders.specs.declared.SenderRow.{SenderRow}
@@ -36,7 +37,6 @@ use Rattle.ledger.specs.Promises.{Tells, cursor_of, cursor_after, joined_after, 
 use Rattle.senders.proofs.Kept.{slot_in_lem, kept_joined, kept_ended}
 use Rattle.senders.proofs.Seating.{rows_joined, rows_open_last, rows_joins, rows_stays}
 use Rattle.book.proofs.Outcomes.{positive, after_done, step_ind, step_fails, step_holds}
-use Rattle.ledger.proofs.Refused.{number_positive}
 
 -- ---- what is held
 
@@ -84,7 +84,7 @@ tells_refused n x s r e nz = step_ind n (book_of x) s (λ a. r ≡ a.number → 
 
 -- as code answers it: a refusal
 pub tells_refusal : (n : ℕ) (x : Ledger) (s : Step) (e : Refusal) → number_of e ≡ (step n (book_of x) s).number → Tells n x s (number_of e) x
-tells_refusal n x s e is = tells_refused n x s (number_of e) is (λ z. absurd (omega (arith, number_positive e)))
+tells_refusal n x s e is = tells_refused n x s (number_of e) is (never_done e)
 
 -- who is no sender is answered 1
 pub no_sender : (n s : ℕ) → is_bench n s ≡ false → (x : Ledger) (a : Step) (l : List Check) → checks n (book_of x) a ≡ needs 1 (is_bench n s) ∷ l → Tells n x a 1 x

@@ -23,7 +23,7 @@ pub const LAST_OUT: u32 = 65533;
 pub const ROOM: usize = 1024;
 
 // Where the ledger stands: the next slot to hand out, and how many sweeps are held.
-#[derive(Clone, Copy)]
+#[derive(Clone, Copy, Debug, Default, PartialEq, Eq, PartialOrd, Ord, Hash)]
 pub struct Cursor {
     pub next: SlotNo,
     pub held: u32,
@@ -47,7 +47,7 @@ impl Cursor {
 }
 
 // A sweep that is held. Its numbers are as narrow as they can be, so that the room is 8 KiB and the slots are soon compared.
-#[derive(Clone, Copy)]
+#[derive(Clone, Copy, Debug, Default, PartialEq, Eq, PartialOrd, Ord, Hash)]
 pub struct Sweep {
     pub sender: u16,
     pub slot: u16,
@@ -55,7 +55,7 @@ pub struct Sweep {
 }
 
 // The first places of the room have the sweeps held, in order of arrival; the others say nothing.
-#[derive(Clone, Copy)]
+#[derive(Clone, Copy, Debug, Default, PartialEq, Eq, PartialOrd, Ord, Hash)]
 pub struct Ledger {
     pub cursor: Cursor,
     pub senders: Senders,
@@ -175,7 +175,7 @@ impl Ledger {
         self.give(out, size)
     }
 
-    // The hand-out of a slot that may go.
+    // The hand-out of a slot that may go. Where nothing held is of the slot, nothing is written and no sweep moves.
     fn give(&mut self, out: &mut [u32], size: Size) -> Result<usize, Refusal>
         requires { (self.old.cursor.next.0 ≤ last_out) × (may_go (benches_of size) self.old.cursor.next.0 (rows_by self.old) ≡ true) }
         ensures { Hands (benches_of size) self.old out.old result self.new out.new }
@@ -183,6 +183,10 @@ impl Ledger {
         let next = self.cursor.next;
         let held = self.held();
         let from = skipped(&self.room[..held], next);
+        if from == held {
+            advance(&mut self.cursor, held as u32);
+            return Ok(0);
+        }
         let count = write_tags(&self.room[from..held], next, out, size)?;
         let left = take_out(&mut self.room, from, held, |sweep| sweep.is_of(next));
         advance(&mut self.cursor, left as u32);

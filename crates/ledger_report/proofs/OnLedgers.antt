@@ -16,6 +16,7 @@ use Rattle.kinds.specs.declared.SlotNo.{SlotNo}
 use Rattle.kinds.specs.declared.Refusal.{Refusal}
 use Rattle.kinds.specs.declared.Refusal.TheVariants as refusal
 use Rattle.kinds.specs.Refusals.{number_of, answer_of}
+use Rattle.kinds.proofs.Refusals.{never_done}
 use Rattle.book.specs.Book as book
 use Rattle.ledger.specs.declared.Ledger.{Ledger}
 use Rattle.ledger.specs.Seen.{room_words, book_of}
@@ -27,7 +28,6 @@ use Rattle.spelling.specs.declared.LedgerStep.{LedgerStep}
 use Rattle.spelling.specs.declared.LedgerStep.TheVariants as script
 use Rattle.spelling.specs.LedgerSteps.{step_is, is_hand_out}
 use Rattle.reports.specs.LedgerReport.{ledger_answer_to, hands_out}
-use Rattle.reports.proofs.Refusals.{never_done}
 use Rattle.ledger_report.specs.Playing.{handed_of, count_of, LineTells, Plays}
 
 -- ---- a malformed line

@@ -12,7 +12,7 @@ use Rattle.std.specs.Int.{from_bool}
 use Rattle.kinds.specs.declared.Refusal.{Refusal}
 use Rattle.kinds.specs.Refusals.{number_of, answer_of}
 use borrow.Author.Tests.{ne_eqb}
-use Rattle.reports.proofs.Refusals.{never_done}
+use Rattle.kinds.proofs.Refusals.{never_done}
 use Rattle.kinds.specs.declared.Size.{Size}
 use Rattle.kinds.specs.Sizes.{benches_of}
 use Rattle.book.specs.Book.{most_held, Book, new_book, answer}

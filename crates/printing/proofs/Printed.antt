@@ -15,9 +15,9 @@ use Rattle.std.specs.Prelude.{Result, Ok, Err}
 use Rattle.kinds.specs.declared.Refusal.{Refusal}
 use Rattle.kinds.specs.declared.Refusal.TheVariants.{LongText}
 use Rattle.kinds.specs.Refusals.{number_of, answer_of}
+use Rattle.kinds.proofs.Refusals.{never_done}
 use Rattle.reports.specs.Reported.{Reports, length_of, longest}
 use Rattle.reports.proofs.Theorems.{report_stands, report_settles}
-use Rattle.reports.proofs.Refusals.{never_done}
 use Rattle.reports.proofs.Settled.{text_long}
 use Rattle.printing.specs.Printed.{printed, HeldBy}
 

@@ -1,4 +1,4 @@
--- What `decision_of` promises settles its answer. That of the steps is settled by `acts_settle` of crate `tables`. Assumes nothing.
+-- What `decision_of` promises settles its answer. That of the steps is settled by `steps_settle` of crate `rounds`. Assumes nothing.
 use mathlib.Core.Path.{◌≡◌, refl, sym, ap, ◌∙◌}
 use Rattle.std.specs.Prelude.{Option, Some, None}
 use Rattle.published.specs.Rounds as published

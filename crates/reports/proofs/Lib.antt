@@ -1,4 +1,3 @@
-pub mod Refusals
 pub mod Settled
 pub mod RunLines
 pub mod LastRounds

@@ -17,7 +17,7 @@ use Rattle.std.specs.Prelude.{Result, Ok, Err}
 use Rattle.kinds.specs.declared.Refusal.{Refusal}
 use Rattle.kinds.specs.declared.Refusal.TheVariants.{ShortRoom, LongText}
 use Rattle.kinds.specs.Refusals.{number_of, answer_of}
-use Rattle.reports.proofs.Refusals.{same_refusal, never_done}
+use Rattle.kinds.proofs.Refusals.{same_refusal, never_done}
 use Rattle.reports.specs.Reported.{length_of, longest, number_for, length_for, room_after, Reports}
 
 module _ (text report room : List ℕ) where

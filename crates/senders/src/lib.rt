@@ -16,7 +16,7 @@ pub use table::Senders;
 pub const LAST_SLOT: u32 = 65534;
 
 // What is kept of a sender that has joined.
-#[derive(Clone, Copy)]
+#[derive(Clone, Copy, Debug, Default, PartialEq, Eq, PartialOrd, Ord, Hash)]
 pub struct SenderRow {
     pub first: SlotNo,
     pub open: SlotNo,

@@ -9,7 +9,7 @@ use sets::{benches_of, has};
 
 // Place i of the set and of the rows is sender i + 1; the row of one that has not joined says nothing. No row is an Option in place of the set:
 // the promise of each step names the set, and a visit ends behind the last that has joined.
-#[derive(Clone, Copy)]
+#[derive(Clone, Copy, Debug, Default, PartialEq, Eq, PartialOrd, Ord, Hash)]
 pub struct Senders {
     pub joined: u32,
     pub rows: [SenderRow; PLACES],

@@ -19,7 +19,7 @@ pub type Log = [Entry; DEPTH];
 pub type Logs = [Log; PLACES];
 
 // All that is held of a run.
-#[derive(Clone, Copy)]
+#[derive(Clone, Copy, Debug, Default, PartialEq, Eq, PartialOrd, Ord, Hash)]
 pub struct Tables {
     pub benches: Benches,
     pub logs: Logs,
