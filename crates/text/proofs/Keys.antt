@@ -1,5 +1,5 @@
 -- Keys and lines as the code compares and looks for them. Assumes nothing.
-use Prim.Native.Nat.{ℕ, ◌+◌, ◌-◌, ◌≤◌, ◌<◌}
+use Prim.Native.Nat.{ℕ, zero, suc, ◌+◌, ◌-◌, ◌≤◌, ◌<◌, min}
 use mathlib.Core.Bool.{Bool, true, false, cond}
 use mathlib.Core.List.{List, [], ◌∷◌}
 use mathlib.Core.Logic.{◌⊎◌, ⊎_elim}
@@ -8,8 +8,10 @@ use native.Mathlib.Omega.{arith}
 use Rattle.std.proofs.lemmas.List.Recursion.{is_position_or_len}
 use Rattle.std.proofs.lemmas.List.Sums.{position_or_len_is}
 use Rattle.memchr.specs.Find.{IsFirstByte, is_byte}
-use lib.Dec.{eqb}
+use borrow.Author.Tests.{leb-true, leb-false}
+use lib.Dec.{eqb, leb}
 use lib.ListN.{length, take, drop, length-append, length-drop}
+use lib.Seq.{take_all}
 use Rattle.std.specs.Prelude.{Option, Some, None, unwrap_or, slice_range, MatchOption}
 use Rattle.std.specs.List.{position_or_len}
 use Rattle.spelling.proofs.Keys.{prefix_sound}
@@ -68,7 +70,7 @@ module _ (key text : List ℕ) (at : ℕ) {n : ℕ} (size : length key ≡ n) wh
 -- ---- a line
 
 -- a line ends at the first byte 10
-line_prefix : (l : List ℕ) → line_length l ≡ position_or_len (λ c. eqb c 10) l
+pub line_prefix : (l : List ℕ) → line_length l ≡ position_or_len (λ c. eqb c 10) l
 unfolding line_length
 line_prefix l = is_position_or_len line_length (λ c. eqb c 10) refl (λ c l. ap (cond (eqb c 10) 0) (omega arith)) l
 
@@ -79,3 +81,24 @@ failed false n = refl
 pub line_first : (l : List ℕ) (found : Option ℕ) → IsFirstByte (is_byte 10) l found → line_length l ≡ unwrap_or found (length l)
 line_first l None h = line_prefix l ∙ position_or_len_is _ l (length l) 0 (omega arith) (λ k b. failed _ (h k (omega arith) b)) (λ b. absurd (omega arith))
 line_first l (Some at) h = line_prefix l ∙ position_or_len_is _ l at 0 (omega (arith, h.0.high)) (λ k b. failed _ (h.0.before k (omega arith) b)) (λ b. h.1)
+
+-- ---- a line of which the first k bytes are looked at
+
+pub first_bytes : (k m : ℕ) (l : List ℕ) → m ≡ min k (length l) → take m l ≡ take k l
+first_bytes k m l e = split (leb k (length l))
+    (λ t. ap (λ (j : ℕ). take j l) (omega (arith, leb-true k (length l) t)))
+    (λ f. let short = leb-false k (length l) f in take_all m l (omega arith) ∙ sym (take_all k l (omega arith)))
+
+pub line_near : (k : ℕ) (l : List ℕ) → line_length (take k l) < k → line_length l ≡ line_length (take k l)
+unfolding line_length
+line_near zero l h = absurd (omega arith)
+line_near (suc k) [] h = refl
+line_near (suc k) (c ∷ l) h = split (eqb c 10) (λ e. rw e refl) (λ e. rw e (ap suc (line_near k l (let s : suc (line_length (take k l)) < suc k = rw e at h in omega arith))))
+
+pub line_far : (k : ℕ) (l : List ℕ) → k ≤ line_length (take k l) → line_length l ≡ k + line_length (drop k l)
+unfolding line_length
+line_far zero l h = omega arith
+line_far (suc k) [] h = absurd (omega arith)
+line_far (suc k) (c ∷ l) h = split (eqb c 10)
+    (λ e. absurd (let s : suc k ≤ 0 = rw e at h in omega arith))
+    (λ e. rw e (let s : suc k ≤ suc (line_length (take k l)) = rw e at h in omega (arith, line_far k l (omega arith))))
