@@ -1,5 +1,5 @@
 -- Keys and lines as the code compares and looks for them. Assumes nothing.
-use Prim.Native.Nat.{ℕ, zero, suc, ◌+◌, ◌-◌, ◌≤◌, ◌<◌, min}
+use Prim.Native.Nat.{ℕ, zero, suc, ◌+◌, ◌-◌, ◌≤◌, ◌<◌}
 use mathlib.Core.Bool.{Bool, true, false, cond}
 use mathlib.Core.List.{List, [], ◌∷◌}
 use mathlib.Core.Logic.{◌⊎◌, ⊎_elim}
@@ -8,10 +8,8 @@ use native.Mathlib.Omega.{arith}
 use Rattle.std.proofs.lemmas.List.Recursion.{is_position_or_len}
 use Rattle.std.proofs.lemmas.List.Sums.{position_or_len_is}
 use Rattle.memchr.specs.Find.{IsFirstByte, is_byte}
-use borrow.Author.Tests.{leb-true, leb-false}
-use lib.Dec.{eqb, leb}
+use lib.Dec.{eqb}
 use lib.ListN.{length, take, drop, length-append, length-drop}
-use lib.Seq.{take_all}
 use Rattle.std.specs.Prelude.{Option, Some, None, unwrap_or, slice_range, MatchOption}
 use Rattle.std.specs.List.{position_or_len}
 use Rattle.spelling.proofs.Keys.{prefix_sound}
@@ -82,12 +80,7 @@ pub line_first : (l : List ℕ) (found : Option ℕ) → IsFirstByte (is_byte 10
 line_first l None h = line_prefix l ∙ position_or_len_is _ l (length l) 0 (omega arith) (λ k b. failed _ (h k (omega arith) b)) (λ b. absurd (omega arith))
 line_first l (Some at) h = line_prefix l ∙ position_or_len_is _ l at 0 (omega (arith, h.0.high)) (λ k b. failed _ (h.0.before k (omega arith) b)) (λ b. h.1)
 
--- ---- a line of which the first k bytes are looked at
-
-pub first_bytes : (k m : ℕ) (l : List ℕ) → m ≡ min k (length l) → take m l ≡ take k l
-first_bytes k m l e = split (leb k (length l))
-    (λ t. ap (λ (j : ℕ). take j l) (omega (arith, leb-true k (length l) t)))
-    (λ f. let short = leb-false k (length l) f in take_all m l (omega arith) ∙ sym (take_all k l (omega arith)))
+-- ---- a line of which k bytes are looked at first
 
 pub line_near : (k : ℕ) (l : List ℕ) → line_length (take k l) < k → line_length l ≡ line_length (take k l)
 unfolding line_length

@@ -61,11 +61,13 @@ pub fn line_end(text: &[u8], from: usize) -> usize
     ensures { result ≡ from + line_length (drop from text.now) }
 {
     let line = rest(text, from);
-    let near = ten_in(&line[..NEAR.min(line.len())]);
-    if near < NEAR {
-        return from + near;
+    let Some((near, far)) = line.split_first_chunk::<NEAR>() else {
+        return from + ten_in(line);
+    };
+    let place = ten_in(near);
+    if place < NEAR {
+        return from + place;
     }
-    let far = &line[NEAR..];
     from + NEAR + memchr(b'\n', far).unwrap_or(far.len())
 }
 
