@@ -1,19 +1,18 @@
 -- Keys and lines as the code compares and looks for them. Assumes nothing.
 use Prim.Native.Nat.{ℕ, zero, suc, ◌+◌, ◌-◌, ◌≤◌, ◌<◌}
-use mathlib.Core.Bool.{Bool, true, false, cond, ◌||◌, false≢true}
+use mathlib.Core.Bool.{Bool, true, false, cond}
 use mathlib.Core.List.{List, [], ◌∷◌}
 use mathlib.Core.Logic.{◌⊎◌, ⊎_elim}
-use mathlib.Core.Path.{◌≡◌, refl, sym, ap, subst, ◌∙◌}
+use mathlib.Core.Path.{◌≡◌, refl, sym, ap, ◌∙◌}
 use native.Mathlib.Omega.{arith}
 use Rattle.std.proofs.lemmas.List.Recursion.{is_position_or_len}
 use Rattle.std.proofs.lemmas.List.Sums.{position_or_len_is}
 use Rattle.memchr.specs.Find.{IsFirstByte, is_byte}
 use borrow.Author.Tests.{eqb-true, eqb-false}
 use lib.Dec.{eqb}
-use lib.ListN.{length, take, drop, length-append, length-take, length-drop}
-use Rattle.std.specs.Bool.{◌==◌}
-use Rattle.std.specs.Prelude.{Option, Some, None, unwrap_or, slice_range, MatchOption}
-use Rattle.std.specs.List.{fold, position_or_len}
+use lib.ListN.{length, take, drop, length-append, length-drop}
+use Rattle.std.specs.Prelude.{Option, Some, None, unwrap_or, slice_range}
+use Rattle.std.specs.List.{position_or_len}
 use Rattle.spelling.proofs.Keys.{prefix_sound}
 use lib.Pointwise.{pointwise}
 use Rattle.common.proofs.Tests.{split}
@@ -77,42 +76,16 @@ line_first l (Some at) h = line_prefix l ∙ position_or_len_is _ l at 0 (omega 
 
 -- ---- a line of which k bytes are looked at first
 
--- whether byte 10 is among them
-abbrev pub ten_among : Bool → List ℕ → Bool
-ten_among = fold (λ found byte. found || byte == 10)
-
-found_stays : (l : List ℕ) → ten_among true l ≡ true
-found_stays [] = refl
-found_stays (c ∷ l) = found_stays l
-
-ten_below : (l : List ℕ) → ten_among false l ≡ true → line_length l < length l
+pub line_near : (k : ℕ) (l : List ℕ) → line_length (take k l) < k → line_length l ≡ line_length (take k l)
 unfolding line_length
-ten_below [] e = absurd (false≢true e)
-ten_below (c ∷ l) e = split (eqb c 10) (λ q. rw q (omega arith)) (λ q. rw q (omega (arith, ten_below l (rw q at e))))
+line_near zero l h = absurd (omega arith)
+line_near (suc k) [] h = refl
+line_near (suc k) (c ∷ l) h = split (eqb c 10) (λ e. rw e refl) (λ e. rw e (ap suc (line_near k l (let s : suc (line_length (take k l)) < suc k = rw e at h in omega arith))))
 
-ten_nowhere : (l : List ℕ) → ten_among false l ≡ false → line_length l ≡ length l
+pub line_far : (k : ℕ) (l : List ℕ) → k ≤ line_length (take k l) → line_length l ≡ k + line_length (drop k l)
 unfolding line_length
-ten_nowhere [] e = refl
-ten_nowhere (c ∷ l) e = split (eqb c 10) (λ q. absurd (false≢true (sym e ∙ rw q (found_stays l)))) (λ q. rw q (ap suc (ten_nowhere l (rw q at e))))
-
-line_cut : (k : ℕ) (l : List ℕ) → line_length (take k l) < length (take k l) → line_length l ≡ line_length (take k l)
-unfolding line_length
-line_cut zero l h = absurd (omega arith)
-line_cut (suc k) [] h = refl
-line_cut (suc k) (c ∷ l) h = split (eqb c 10) (λ e. rw e refl)
-    (λ e. rw e (ap suc (line_cut k l (let s : suc (line_length (take k l)) < suc (length (take k l)) = rw e at h in omega arith))))
-
-line_past : (k : ℕ) (l : List ℕ) → k ≤ line_length (take k l) → line_length l ≡ k + line_length (drop k l)
-unfolding line_length
-line_past zero l h = omega arith
-line_past (suc k) [] h = absurd (omega arith)
-line_past (suc k) (c ∷ l) h = split (eqb c 10)
+line_far zero l h = omega arith
+line_far (suc k) [] h = absurd (omega arith)
+line_far (suc k) (c ∷ l) h = split (eqb c 10)
     (λ e. absurd (let s : suc k ≤ 0 = rw e at h in omega arith))
-    (λ e. rw e (let s : suc k ≤ suc (line_length (take k l)) = rw e at h in omega (arith, line_past k l (omega arith))))
-
-module _ (k : ℕ) (l near far : List ℕ) (is_near : near ≡ take k l) (is_far : far ≡ drop k l) (whole : length far + k ≡ length l) where
-  pub line_near : ten_among false near ≡ true → line_length l ≡ line_length near
-  line_near e = line_cut k l (subst (λ (b : List ℕ). line_length b < length b) is_near (ten_below near e)) ∙ ap line_length (sym is_near)
-
-  pub line_far : ten_among false near ≡ false → line_length l ≡ k + line_length far
-  line_far e = rw is_far (line_past k l (omega (arith, ap line_length is_near, ap length is_near, ten_nowhere near e, length-take k l)))
+    (λ e. rw e (let s : suc k ≤ suc (line_length (take k l)) = rw e at h in omega (arith, line_far k l (omega arith))))

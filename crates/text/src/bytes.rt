@@ -1,7 +1,7 @@
 // Fixed byte strings such as key names; and where a line ends.
-ghost use Rattle.std.specs.Prelude.{◌≡◌, ◌+◌, ◌==◌, ◌||◌, ◌≤◌, false, drop, get_or, length};
+ghost use Rattle.std.specs.Prelude.{◌≡◌, ◌+◌, ◌==◌, ◌≤◌, drop, get_or, length};
 ghost use Rattle.std.specs.Cmp.Lexicographic.{pointwise};
-ghost use Rattle.std.specs.List.{fold, position_or_len};
+ghost use Rattle.std.specs.List.{position_or_len};
 ghost use Rattle.spelling.specs.Fields.{behind, line_length};
 
 use memchr::memchr;
@@ -56,8 +56,8 @@ pub fn byte_at(text: &[u8], at: usize) -> u8
     text.get(at).copied().unwrap_or(0)
 }
 
-// How many bytes of a line are compared before `memchr` is called: that is made for long lines, and takes longer to begin than a short line has.
-const NEAR: usize = 8;
+// How many bytes of a line are looked at one by one: `memchr` is made for long lines, and takes longer to begin than these take.
+const NEAR: usize = 4;
 
 // Where the line that begins at a place ends: at byte 10 or at the text's end.
 pub fn line_end(text: &[u8], from: usize) -> usize
@@ -67,20 +67,11 @@ pub fn line_end(text: &[u8], from: usize) -> usize
     let Some((near, far)) = line.split_first_chunk::<NEAR>() else {
         return from + ten_in(line);
     };
-    if has_ten(near) {
-        return from + ten_in(near);
+    let place = ten_in(near);
+    if place < NEAR {
+        return from + place;
     }
     from + NEAR + memchr(b'\n', far).unwrap_or(far.len())
-}
-
-// Whether byte 10 is among the bytes. They are compared without a branch between, so that they are compared at once.
-#[inline(always)]
-fn has_ten(bytes: &[u8]) -> bool
-    ensures { result ≡ fold (λ found byte. found || byte == 10) false bytes.now }
-{
-    bytes
-        .iter()
-        .fold(false, |found, byte| found | (*byte == b'\n'))
 }
 
 // The place of byte 10, or how many bytes there are. They are looked at one by one.
