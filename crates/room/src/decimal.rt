@@ -37,7 +37,7 @@ fn store_digits(room: &mut [u8], at: usize, n: u32) -> usize
 }
 
 impl Writer<'_> {
-    // Most numbers of a text have one digit, and a refusal's number two: they are stored without a call.
+    // Most numbers of a text have one digit: that is stored without a call.
     #[inline(always)]
     pub(crate) fn store_number(&mut self, n: u32)
         requires { Holds self.old (digits n) }
@@ -46,10 +46,6 @@ impl Writer<'_> {
         if n < 10 {
             self.room[self.at] = b'0' + n as u8;
             self.at += 1;
-            return;
-        }
-        if n < 100 {
-            self.store_bytes(&[b'0' + (n / 10) as u8, b'0' + (n % 10) as u8]);
             return;
         }
         self.at = store_digits(self.room, self.at, n);
