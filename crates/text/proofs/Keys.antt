@@ -8,7 +8,6 @@ use native.Mathlib.Omega.{arith}
 use Rattle.std.proofs.lemmas.List.Recursion.{is_position_or_len}
 use Rattle.std.proofs.lemmas.List.Sums.{position_or_len_is}
 use Rattle.memchr.specs.Find.{IsFirstByte, is_byte}
-use borrow.Author.Tests.{eqb-true, eqb-false}
 use lib.Dec.{eqb}
 use lib.ListN.{length, take, drop, length-append, length-drop}
 use Rattle.std.specs.Prelude.{Option, Some, None, unwrap_or, slice_range}
@@ -29,35 +28,42 @@ prefix_front (k ∷ ks) (c ∷ l) h = split (eqb c k) (λ e. rw (e, prefix_front
 prefix_fits : (key l : List ℕ) → is_prefix key l ≡ true → length key ≤ length l
 prefix_fits key l h = omega (arith, ap length (prefix_sound key l h), length-append key (drop (length key) l))
 
-pub empty_key : (key text : List ℕ) (at : ℕ) → eqb (length key) 0 ≡ true → Some at ≡ behind key text at
-unfolding behind is_prefix
-empty_key [] text at e = ap (λ (k : ℕ). Some k) (omega arith)
-empty_key (c ∷ key) text at e = absurd (omega (arith, eqb-true (length (c ∷ key)) 0 e))
-
-module _ (key text : List ℕ) (at : ℕ) {end : ℕ} (f : end ≡ at + length key) where
-  pub short_key : length (drop at text) < length key → None ≡ behind key text at
+module _ (key text : List ℕ) (at : ℕ) {n : ℕ} (size : length key ≡ n) where
+  pub short_key : length (drop at text) < n → None ≡ behind key text at
   unfolding behind
   short_key h = split (is_prefix key (drop at text)) (λ e. absurd (omega (arith, prefix_fits key (drop at text) e))) (λ e. rw e refl)
 
-  pub short_text : eqb (length key) 0 ≡ false → (end < at) ⊎ (length text < end) → None ≡ behind key text at
-  short_text e o =
-      let some = eqb-false (length key) 0 e in
-      short_key (⊎_elim (λ (h : end < at). omega arith) (λ (h : length text < end). omega (arith, length-drop at text)) o)
+  -- what is compared with the key: the bytes that stand there, or none where the text has not as many
+  pub record Here (here : List ℕ) : Type 0 where
+    pub same : is_prefix key (drop at text) ≡ pointwise eqb here key
 
-  module _ {here : List ℕ} (e : here ≡ slice_range text at end) (h : end ≤ length text) where
-    compared : is_prefix key (drop at text) ≡ pointwise eqb here key
-    compared =
-        let m : end - at ≡ length key = omega arith in
-        let g : here ≡ take (length key) (drop at text) = rw m at e in
-        rw g (prefix_front key (drop at text) (omega (arith, length-drop at text)))
+  all_here : {here : List ℕ} → here ≡ slice_range text at (at + n) → at + n ≤ length text → Here here
+  all_here {here} e h =
+      let m : at + n - at ≡ length key = omega arith in
+      let f : here ≡ take (length key) (drop at text) = rw m at e in
+      record { same = rw f (prefix_front key (drop at text) (omega (arith, length-drop at text))) }
 
+  none_here : {here : List ℕ} → here ≡ [] → length text < at + n → Here here
+  unfolding is_prefix
+  none_here {here} e h = rw e (record { same = go key (λ k. omega (arith, prefix_fits key (drop at text) k, length-drop at text)) })
+    where
+      go : (k : List ℕ) → (is_prefix k (drop at text) ≡ true → length k ≤ 0) → is_prefix k (drop at text) ≡ pointwise eqb [] k
+      go [] f = refl
+      go (c ∷ k) f = split (is_prefix (c ∷ k) (drop at text)) (λ q. absurd (omega (arith, f q))) (λ q. q)
+
+  pub here_is : {X : Type 0} (now : X → List ℕ) (found : Option X) {end : ℕ} {none here : X} → end ≡ at + n → here ≡ unwrap_or found none → now none ≡ []
+      → MatchOption found ((end < at) ⊎ (length text < end)) (λ x. (at ≤ end) × (end ≤ length text) × (now x ≡ slice_range text at end) × (length (now x) + at ≡ end)) → Here (now here)
+  here_is now None f e z m = rw (e, z) (none_here refl (⊎_elim (λ (out : _ < at). omega arith) (λ (out : length text < _). omega arith) m))
+  here_is now (Some x) f e z m = rw e (all_here (rw f at m.2) (omega arith))
+
+  module _ {here : List ℕ} (p : Here here) {end : ℕ} (f : end ≡ at + n) where
     pub this_key : true ≡ pointwise eqb here key → Some end ≡ behind key text at
     unfolding behind
-    this_key q = rw (compared ∙ sym q) (ap (λ (k : ℕ). Some k) f)
+    this_key h = rw (p.same ∙ sym h, size) (ap (λ (k : ℕ). Some k) f)
 
     pub other_key : false ≡ pointwise eqb here key → None ≡ behind key text at
     unfolding behind
-    other_key q = rw (compared ∙ sym q) refl
+    other_key h = rw (p.same ∙ sym h) refl
 
 -- ---- a line
 

@@ -18,11 +18,8 @@ fn rest(text: &[u8], at: usize) -> &[u8]
 pub fn behind(text: &[u8], at: usize, key: &[u8]) -> Option<usize>
     ensures { result ≡ behind key.now text.now at }
 {
-    if key.is_empty() {
-        return Some(at);
-    }
     let end = at.checked_add(key.len())?;
-    let here = text.get(at..end)?;
+    let here = text.get(at..end).unwrap_or(b"");
     if same(here, key) { Some(end) } else { None }
 }
 
