@@ -10,7 +10,7 @@ use Rattle.std.proofs.lemmas.List.Sums.{position_or_len_is}
 use Rattle.memchr.specs.Find.{IsFirstByte, is_byte}
 use lib.Dec.{eqb}
 use lib.ListN.{length, take, drop, length-append, length-drop}
-use Rattle.std.specs.Prelude.{Option, Some, None, unwrap_or, slice_range}
+use Rattle.std.specs.Prelude.{Option, Some, None, unwrap_or, slice_range, MatchOption}
 use Rattle.std.specs.List.{position_or_len}
 use Rattle.spelling.proofs.Keys.{prefix_sound}
 use lib.Pointwise.{pointwise}
