@@ -1,5 +1,5 @@
 -- A number's digits are those that std writes, and how many there are. Assumes nothing.
-use Rattle.std.proofs.Common.{◌≡◌, ℕ, ◌+◌, ◌%◌, ◌^◌, ◌<◌, ◌≤◌, List, [], ◌∷◌, ◌++◌, length, take, drop, refl, sym, ◌∙◌, arith, cond, leb, Bool, true, ◌&&◌, length-append}
+use Rattle.std.proofs.Common.{◌≡◌, ℕ, ◌+◌, ◌/◌, ◌%◌, ◌^◌, ◌<◌, ◌≤◌, List, [], ◌∷◌, ◌++◌, length, take, drop, refl, sym, ◌∙◌, arith, cond, leb, Bool, true, ◌&&◌, length-append}
 use Rattle.std.specs.Fmt.{decimal}
 use Rattle.std.specs.List.{prefix_len}
 use Rattle.std.proofs.lemmas.Fmt.{decimal_by_steps}
@@ -16,6 +16,9 @@ digits_decimal : (n : ℕ) → n < 2 ^ 32 → digits n ≡ decimal n
 digits_decimal n t =
     decimal_by_steps (λ m ds. m < 10000000000 → digits m ≡ ds) (λ m h _. digits_small m h)
     (λ m ds h ih u. digits_large m h u ∙ rw (ih (omega arith)) refl) n (omega arith) (omega arith)
+
+pub two_digits : (n : ℕ) → 10 ≤ n → n < 100 → digits n ≡ (48 + n / 10) ∷ (48 + n % 10) ∷ []
+two_digits n h t = digits_large n h (omega arith) ∙ rw (digits_small (n / 10) (omega arith)) refl
 
 -- what `write_digits` asks for and leaves, where the digits of n are k and m is n
 module _ (l : List ℕ) (at n m k : ℕ) (t : n < 2 ^ 32) (same : m ≡ n) (long : k ≡ length (digits n)) (inside : at + length (digits n) ≤ length l) where

@@ -1,7 +1,8 @@
 // The front of an answer's line: the number of the line that is answered, and the answer.
-ghost use Rattle.std.specs.Prelude.{◌≡◌, ◌+◌, leb, length};
+ghost use Rattle.std.specs.Prelude.{◌≡◌, ◌++◌, ◌+◌, leb, length};
+ghost use Rattle.spelling.specs.Numbers.{ascii, digits};
 ghost use Rattle.spelling.specs.Answers.{answer_text};
-ghost use Rattle.room.specs.Writes.{Puts};
+ghost use Rattle.room.specs.Writes.{Holds, Puts, Writes};
 
 use crate::decimal::number_length;
 use crate::writer::Writer;
@@ -15,6 +16,20 @@ impl Writer<'_> {
         self.has_room(33) || self.has_room(13 + number_length(line) + number_length(answer))
     }
 
+    // Stores the answer behind its key. It has hardly ever more than two digits: these are stored without a call.
+    #[inline(always)]
+    fn store_answer(&mut self, answer: u32)
+        requires { Holds self.old (ascii " answer=" ++ digits answer) }
+        ensures { Writes self.old (ascii " answer=" ++ digits answer) self.new }
+    {
+        self.store_bytes(b" answer=");
+        if 10 <= answer && answer < 100 {
+            self.store_bytes(&[b'0' + (answer / 10) as u8, b'0' + (answer % 10) as u8]);
+        } else {
+            self.store_number(answer);
+        }
+    }
+
     // Writes both, where the room holds them.
     pub fn put_answer(&mut self, line: u32, answer: AnswerNo)
         ensures { Puts self.old (answer_text line answer) self.new }
@@ -22,7 +37,7 @@ impl Writer<'_> {
         let number = answer as u32;
         if self.has_room_for_answer(line, number) {
             self.store_field(b"line=", line);
-            self.store_field(b" answer=", number);
+            self.store_answer(number);
         }
     }
 }

@@ -8,12 +8,12 @@ use Rattle.room.proofs.writer.Writer.put_answer.Goals as goal
 pub returns-else-has_room_for_answer : goal.returns-else-has_room_for_answer
 returns-else-has_room_for_answer c = put_none _ _ _ _ refl c.has_room_for_answer.ensures c.if-has_room_for_answer.false
 
-pub store_field-requires-then-has_room_for_answer : goal.store_field-requires-then-has_room_for_answer
-store_field-requires-then-has_room_for_answer c =
+pub store_answer-requires : goal.store_answer-requires
+store_answer-requires c =
     let both = answer_text c.args.line c.args.answer in
     holds_behind c.store_field.ensures (ascii " answer=" ++ digits c.args.answer)
     (put_held c.args.self.now both _ _ refl c.has_room_for_answer.ensures c.if-has_room_for_answer.true)
 
 pub returns-then-has_room_for_answer : goal.returns-then-has_room_for_answer
 returns-then-has_room_for_answer c =
-    put_all _ _ _ _ refl c.has_room_for_answer.ensures c.if-has_room_for_answer.true (λ _. writes_then c.store_field.ensures c.store_field-then-has_room_for_answer.ensures)
+    put_all _ _ _ _ refl c.has_room_for_answer.ensures c.if-has_room_for_answer.true (λ _. writes_then c.store_field.ensures c.store_answer.ensures)
