@@ -1,30 +1,30 @@
--- What writing answers: how long a line is, a line that is made beside the room, and the answers. Assumes nothing.
-use Prim.Native.Nat.{ℕ, zero, suc, ◌+◌, ◌-◌, ◌*◌, ◌/◌, ◌%◌, ◌≤◌}
+-- What writing answers: how long a step is, where its line ends, and the three answers. Assumes nothing.
+use Prim.Native.Nat.{ℕ, zero, suc, ◌+◌, ◌*◌, ◌/◌, ◌%◌, ◌≤◌}
 use native.Mathlib.Omega.{arith}
-use mathlib.Core.Bool.{Bool, true, false, cond}
+use mathlib.Core.Bool.{Bool, true, false}
 use mathlib.Core.List.{List, [], ◌∷◌, ◌++◌}
 use mathlib.Core.Logic.{⊎_elim}
 use mathlib.Core.Path.{◌≡◌, refl, sym, ap, ◌∙◌}
 use lib.Dec.{leb}
 use lib.ListN.{length, take, length-append}
-use borrow.Author.Tests.{le-leb}
+use borrow.Author.Tests.{leb-true}
 use Rattle.std.specs.Prelude.{Result, Ok, Err}
 use Rattle.kinds.specs.declared.Refusal.{Refusal}
 use Rattle.kinds.specs.declared.Refusal.TheVariants.{NotWritable, ShortRoom}
 use Rattle.kinds.specs.declared.Step.{Step}
 use Rattle.kinds.specs.declared.Step.TheVariants.{Start, Abstain, Leave, Fail, Turn, Arrive, Notice}
-use Rattle.common.proofs.Tests.{split}
 use Rattle.spelling.specs.Numbers.{ascii, digits}
 use Rattle.spelling.specs.Spelling.{members, world_text, step_text, is_writable}
 use Rattle.spelling.specs.Text.{line_text, write_line_of, room_after}
-use Rattle.spelling.specs.Stored.{Stored, fits, fitting}
+use Rattle.spelling.specs.Stored.{Stored, fits}
 use Rattle.spelling.proofs.Decimals.{digits_length}
 use Rattle.spelling.proofs.Members.{members_odd, members_even, members_nil}
 use Rattle.spelling.proofs.WorldTrip.{parity}
+use Rattle.spelling.proofs.Stores.{stored_length}
 use Rattle.spelling.proofs.Puts.{front}
 use Rattle.room.specs.declared.writer.Writer.{Writer}
-use Rattle.room.specs.Writes.{Holds, Writes, Puts}
-use Rattle.room.proofs.Writers.{put_none}
+use Rattle.room.specs.Writes.{Writes, Puts}
+use Rattle.room.proofs.Writers.{writes_then, put_last}
 
 -- ---- how long a step is
 
@@ -53,32 +53,25 @@ step_length (Turn b) = omega (arith, digits_length b.0)
 step_length (Arrive b f) = omega (arith, length-append (digits b.0) (ascii " from=" ++ digits f.0), digits_length b.0, digits_length f.0)
 step_length (Notice b f) = omega (arith, length-append (digits b.0) (ascii " from=" ++ digits f.0), digits_length b.0, digits_length f.0)
 
-pub line_length : (s : Step) → length (line_text s) ≤ 404
+pub line_length_lem : (s : Step) → length (line_text s) ≡ length (step_text s) + 1
 unfolding line_text
-line_length s = omega (arith, step_length s, length-append (step_text s) (10 ∷ []))
+line_length_lem s = length-append (step_text s) (10 ∷ [])
 
--- ---- a line that is made beside the room
+-- ---- the line as it is made, beside the room
 
-module _ (s : Step) (first made : Writer) (zero_is : first.at ≡ 0) (long : 404 ≤ length first.room.now) (p : Writes first (line_text s) made) where
-  made_length : made.at ≡ length (line_text s)
-  made_length = omega (arith, p.stored.place)
+module _ (s : Step) {first step line : Writer} (zero_is : first.at ≡ 0) (long : 404 ≤ length first.room.now) where
+  module _ (p : Writes first (step_text s) step) (q : Puts step (10 ∷ []) line) where
+    made : Stored first.room.now 0 (line_text s) line.at line.room.now
+    unfolding line_text
+    made = rw zero_is at (writes_then p (put_last (10 ∷ []) q (omega (arith, p.stored.place, stored_length p.stored, step_length s)))).stored
 
-  made_is : take made.at made.room.now ≡ line_text s
-  made_is = front (line_text s) (omega (arith, line_length s)) (rw zero_is at p.stored)
+    pub line_long : line.at ≡ length (line_text s)
+    line_long = omega (arith, made.place)
 
-  module _ (out : Writer) (r : Bool) (has : r ≡ leb (out.at + made.at) (length out.room.now)) where
-    measured : fits out.room.now out.at (line_text s) ≡ r
-    unfolding fits
-    measured = rw (← made_length) (sym has)
+    pub line_is : take line.at line.room.now ≡ line_text s
+    line_is = front (line_text s) (omega (arith, line_length_lem s, step_length s)) made
 
-    pub beside_none : r ≡ false → (Err ShortRoom ≡ cond (fits out.room.now out.at (line_text s)) (Ok (length (line_text s))) (Err ShortRoom)) × Puts out (line_text s) out
-    beside_none q = (rw (measured ∙ q) refl, put_none out (line_text s) made.at r made_length has q)
-
-    pub beside_all : r ≡ true → (text : List ℕ) (after : Writer) → text ≡ take made.at made.room.now → Puts out text after
-        → (Ok made.at ≡ cond (fits out.room.now out.at (line_text s)) (Ok (length (line_text s))) (Err ShortRoom)) × Puts out (line_text s) after
-    beside_all q text after e u = (rw (measured ∙ q) (ap Ok made_length), rw (e ∙ made_is) at u)
-
--- ---- the answers
+-- ---- the three answers
 
 module _ (limit : ℕ) (s : Step) (room : List ℕ) (at : ℕ) where
   abbrev Answered : Result ℕ Refusal → List ℕ → Type 0
@@ -88,17 +81,20 @@ module _ (limit : ℕ) (s : Step) (room : List ℕ) (at : ℕ) where
   unfolding write_line_of room_after
   not_writable w = (rw w refl, rw w refl)
 
-  module _ (w : is_writable limit s ≡ true) where
-    pub put_answered : (r : Result ℕ Refusal) (next : ℕ) (room' : List ℕ) → r ≡ cond (fits room at (line_text s)) (Ok (length (line_text s))) (Err ShortRoom)
-        → Stored room at (fitting room at (line_text s)) next room' → Answered r room'
-    unfolding write_line_of room_after fitting
-    put_answered r next room' e p = split (fits room at (line_text s))
-        (λ f. (rw w e, rw (w, f) (p.held ∙ rw f refl)))
-        (λ f. (rw w e, rw (w, f) (p.held ∙ rw f refl)))
+  module _ (w : is_writable limit s ≡ true) {n : ℕ} (len : n ≡ length (line_text s)) {r : Bool} (has : r ≡ leb (at + n) (length room)) where
+    fitting : fits room at (line_text s) ≡ r
+    unfolding fits
+    fitting = rw (← len) (sym has)
 
-    pub all_answered : (next : ℕ) (room' : List ℕ) → at + 404 ≤ length room → Stored room at (line_text s) next room' → Answered (Ok (next - at)) room'
-    unfolding write_line_of room_after fits
-    all_answered next room' h p =
-        let f : leb (at + length (line_text s)) (length room) ≡ true = le-leb (at + length (line_text s)) (length room) (omega (arith, line_length s)) in
-        let n : next - at ≡ length (line_text s) = omega (arith, p.place) in
-        (rw (w, f) (ap Ok n), rw (w, f) p.held)
+    pub no_room : r ≡ false → Answered (Err ShortRoom) room
+    unfolding write_line_of room_after
+    no_room q = let f : fits room at (line_text s) ≡ false = fitting ∙ q in (rw (w, f) refl, rw (w, f) refl)
+
+    pub line_written : r ≡ true → {first out : Writer} {text after : List ℕ} → first.at ≡ at → first.room.now ≡ room → text ≡ line_text s
+        → Puts first text out → after ≡ out.room.now → Answered (Ok n) after
+    unfolding write_line_of room_after
+    line_written q {first} {out} at_is held text_is p e =
+        let f : fits room at (line_text s) ≡ true = fitting ∙ q in
+        let h : at + length (line_text s) ≤ length room = rw (← len) (leb-true (at + n) (length room) (sym has ∙ q)) in
+        let u : Writes first (line_text s) out = put_last (line_text s) (rw text_is at p) (omega (arith, ap length held)) in
+        (rw (w, f) (ap Ok len), rw (w, f) (e ∙ (rw (held, at_is) at u.stored.held)))

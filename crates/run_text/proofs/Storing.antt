@@ -8,7 +8,7 @@ use Rattle.spelling.specs.Numbers.{digits}
 use Rattle.spelling.specs.Spelling.{members, world_text}
 use Rattle.spelling.specs.Storing.{sep_at}
 use Rattle.spelling.proofs.Decimals.{digits_length}
-use Rattle.spelling.proofs.Members.{members_odd, members_even, members_nil, members_zero, sep_comma, sep_none}
+use Rattle.spelling.proofs.Members.{members_odd, members_even, members_nil, sep_comma, sep_none}
 use Rattle.room.specs.declared.writer.Writer.{Writer}
 use Rattle.room.specs.Writes.{Puts, Holds, Writes}
 use Rattle.room.proofs.Writers.{Going, going_start, going_put, going_holds, going_end, put_last}
@@ -48,6 +48,3 @@ module _ (first : Writer) (from world : ℕ) (out : Writer) (rest k : ℕ) (p : 
 
   pub world_all : 32 ≤ k → Writes first (world_text world) out
   world_all h = let z : 32 - k ≡ 0 = omega arith in going_end (rw (z, members_nil (k + 1) rest (sep_at from out.at)) at p.going)
-
-  pub world_done : rest ≡ 0 → Writes first (world_text world) out
-  world_done z = going_end (rw (z, members_zero (32 - k) (k + 1) (sep_at from out.at)) at p.going)

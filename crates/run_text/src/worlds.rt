@@ -69,9 +69,6 @@ pub(crate) fn write_world(out: &mut Writer, world: u32)
     let from = out.at;
     let mut rest = world;
     for place in 0..32 {
-        if rest == 0 {
-            break;
-        }
         if rest % 2 == 1 {
             out.put_field(separator(from, out.at), place + 1);
         }

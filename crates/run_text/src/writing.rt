@@ -1,12 +1,10 @@
 // A step's line written.
-ghost use Rattle.std.specs.Prelude.{◌≡◌, cond, length, Ok, Err};
-ghost use Rattle.kinds.specs.declared.Refusal.TheVariants.{ShortRoom};
+ghost use Rattle.std.specs.Prelude.{◌≡◌};
 ghost use Rattle.kinds.specs.Sizes.{benches_of};
 ghost use Rattle.spelling.specs.Spelling.{step_text, is_small, is_writable};
-ghost use Rattle.room.specs.Writes.{Holds, Puts, Writes};
+ghost use Rattle.room.specs.Writes.{Holds, Writes};
 ghost use Rattle.spelling.specs.Storing.{sender_text, start_text};
-ghost use Rattle.spelling.specs.Stored.{fits};
-ghost use Rattle.spelling.specs.Text.{line_text, write_line_of, room_after};
+ghost use Rattle.spelling.specs.Text.{write_line_of, room_after};
 
 use crate::worlds;
 use kinds::{BenchNo, Refusal, Size, SlotNo, Step};
@@ -76,34 +74,8 @@ fn write_step(out: &mut Writer, step: Step)
     }
 }
 
-// Writes a step, byte 10 at its end.
-fn write_whole(out: &mut Writer, line: Line)
-    requires { Holds out.old (line_text line) }
-    ensures { Writes out.old (line_text line) out.new }
-{
-    write_step(out, line);
-    out.put_bytes(b"\n");
-}
-
-// Writes a line where the writer stands, which has perhaps no room for it: it is made beside the room, so that a refusal writes nothing there.
-fn write_beside(out: &mut Writer, line: Line) -> Result<usize, Refusal>
-    ensures answer { result ≡ cond (fits out.old.room.now out.old.at (line_text line)) (Ok (length (line_text line))) (Err ShortRoom) }
-    ensures written { Puts out.old (line_text line) out.new }
-{
-    let mut bytes = [0; LONGEST_LINE];
-    let mut made = Writer {
-        room: &mut bytes,
-        at: 0,
-    };
-    write_whole(&mut made, line);
-    if !out.has_room(made.at) {
-        return Err(Refusal::ShortRoom);
-    }
-    out.put_bytes(made.written());
-    Ok(made.at)
-}
-
-// Writes a line from a place on, byte 10 at its end, and answers how many bytes it has.
+// Writes a line from a place on, byte 10 at its end, and answers how many bytes it has. It is made beside the room, so that a refusal
+// writes nothing there.
 pub(crate) fn write_line(
     line: Line,
     room: &mut [u8],
@@ -116,10 +88,17 @@ pub(crate) fn write_line(
     if !is_writable(line, size) {
         return Err(Refusal::NotWritable);
     }
+    let mut bytes = [0; LONGEST_LINE];
+    let mut made = Writer {
+        room: &mut bytes,
+        at: 0,
+    };
+    write_step(&mut made, line);
+    made.put_bytes(b"\n");
     let mut out = Writer { room, at };
-    if !out.has_room(LONGEST_LINE) {
-        return write_beside(&mut out, line);
+    if !out.has_room(made.at) {
+        return Err(Refusal::ShortRoom);
     }
-    write_whole(&mut out, line);
-    Ok(out.at - at)
+    out.put_bytes(made.written());
+    Ok(made.at)
 }

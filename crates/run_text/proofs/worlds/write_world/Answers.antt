@@ -1,6 +1,6 @@
 -- `write_world`: the benches from here on are left to be written.
 use Rattle.std.proofs.Common.{refl}
-use Rattle.run_text.proofs.Storing.{world_none, world_in, world_out, world_all, world_done}
+use Rattle.run_text.proofs.Storing.{world_none, world_in, world_out, world_all}
 use Rattle.run_text.proofs.worlds.write_world.Goals as goal
 use Rattle.run_text.proofs.worlds.write_world.Goals.{then-rest-eq1, else-rest-eq1}
 
@@ -16,8 +16,5 @@ loop-place-preserved c =
       | else-rest-eq1 w ↦ rw w.out-is (world_out _ _ _ _ _ _ i within w.if-rest-eq1.false)
     ]
 
-pub returns-after-loop-place : goal.returns-after-loop-place
-returns-after-loop-place c = search world_all
-
-pub returns-then-rest-eq0 : goal.returns-then-rest-eq0
-returns-then-rest-eq0 c = world_done _ _ _ _ _ _ c.loop-place.invariant c.if-rest-eq0.true
+pub returns : goal.returns
+returns c = search world_all

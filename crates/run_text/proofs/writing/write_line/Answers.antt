@@ -1,7 +1,6 @@
--- `write_line` meets its contract. By the check of the step, and whether there is room for every line. Assumes nothing.
-use Rattle.std.proofs.Common.{rules, arith, ◌≡◌, sym, ◌∙◌}
-use borrow.Author.Tests.{leb-true}
-use Rattle.run_text.proofs.Answers.{line_length, not_writable, put_answered, all_answered}
+-- `write_line` meets its contract. By the two checks. Assumes nothing.
+use Rattle.std.proofs.Common.{rules, arith, refl, sym, ◌∙◌}
+use Rattle.run_text.proofs.Answers.{step_length, line_long, line_is, not_writable, no_room, line_written}
 use Rattle.run_text.proofs.writing.write_line.Goals as goal
 
 pub returns-then-not-is_writable-clause-answer : goal.returns-then-not-is_writable-clause-answer
@@ -10,21 +9,27 @@ returns-then-not-is_writable-clause-answer c = (not_writable _ _ _ _ (sym c.if-n
 pub returns-then-not-is_writable-clause-held : goal.returns-then-not-is_writable-clause-held
 returns-then-not-is_writable-clause-held c = (not_writable _ _ _ _ (sym c.if-not-is_writable.ensures)).1
 
+pub write_step-requires : goal.write_step-requires
+write_step-requires c = omega (arith, step_length c.args.line)
+
 pub returns-then-not-has_room-clause-answer : goal.returns-then-not-has_room-clause-answer
-returns-then-not-has_room-clause-answer c = (put_answered _ _ _ _ (sym c.if-not-is_writable.ensures) _ _ _ c.write_beside.ensures.answer c.write_beside.ensures.written.stored).0
+returns-then-not-has_room-clause-answer c =
+    let long = line_long _ refl (search rules) c.write_step.ensures c.put_bytes.ensures in
+    (no_room _ _ _ _ (sym c.if-not-is_writable.ensures) long c.has_room.ensures c.if-not-has_room.true).0
 
 pub returns-then-not-has_room-clause-held : goal.returns-then-not-has_room-clause-held
 returns-then-not-has_room-clause-held c =
-    let same : c.room-1.given.0 ≡ c.write_beside.new.out.room.now = search rules in
-    same ∙ (put_answered _ _ _ _ (sym c.if-not-is_writable.ensures) _ _ _ c.write_beside.ensures.answer c.write_beside.ensures.written.stored).1
-
-pub write_whole-requires : goal.write_whole-requires
-write_whole-requires c = omega (arith, line_length c.args.line, leb-true _ _ (sym c.has_room.ensures ∙ c.if-not-has_room.false))
+    let long = line_long _ refl (search rules) c.write_step.ensures c.put_bytes.ensures in
+    (no_room _ _ _ _ (sym c.if-not-is_writable.ensures) long c.has_room.ensures c.if-not-has_room.true).1
 
 pub returns-clause-answer : goal.returns-clause-answer
-returns-clause-answer c = (all_answered _ _ _ _ (sym c.if-not-is_writable.ensures) _ _ (leb-true _ _ (sym c.has_room.ensures ∙ c.if-not-has_room.false)) c.write_whole.ensures.stored).0
+returns-clause-answer c =
+    let long = line_long _ refl (search rules) c.write_step.ensures c.put_bytes.ensures in
+    let text = c.written.ensures ∙ line_is _ refl (search rules) c.write_step.ensures c.put_bytes.ensures in
+    (line_written _ _ _ _ (sym c.if-not-is_writable.ensures) long c.has_room.ensures c.if-not-has_room.false refl refl text c.put_bytes-2.ensures refl).0
 
 pub returns-clause-held : goal.returns-clause-held
 returns-clause-held c =
-    let same : c.room-2-1.given.0 ≡ c.write_whole.new.out.room.now = search rules in
-    same ∙ (all_answered _ _ _ _ (sym c.if-not-is_writable.ensures) _ _ (leb-true _ _ (sym c.has_room.ensures ∙ c.if-not-has_room.false)) c.write_whole.ensures.stored).1
+    let long = line_long _ refl (search rules) c.write_step.ensures c.put_bytes.ensures in
+    let text = c.written.ensures ∙ line_is _ refl (search rules) c.write_step.ensures c.put_bytes.ensures in
+    (line_written _ _ _ _ (sym c.if-not-is_writable.ensures) long c.has_room.ensures c.if-not-has_room.false refl refl text c.put_bytes-2.ensures (search rules)).1
