@@ -8,8 +8,8 @@ use Rattle.common.proofs.Tests.{both, split}
 use Rattle.spelling.specs.Numbers.{digits, leads}
 use Rattle.spelling.specs.Stored.{Stored}
 use Rattle.room.specs.declared.decimal.TheConstants.{POWERS}
-use Rattle.spelling.specs.Storing.{places}
-use Rattle.spelling.proofs.Decimals.{digits_small, digits_large}
+use Rattle.spelling.specs.Storing.{places, low, four}
+use Rattle.spelling.proofs.Decimals.{digits_small, digits_large, digits_low, lead_none, lead_some}
 use Rattle.room.proofs.Cuts.{stored_from}
 
 digits_decimal : (n : ℕ) → n < 2 ^ 32 → digits n ≡ decimal n
@@ -17,8 +17,27 @@ digits_decimal n t =
     decimal_by_steps (λ m ds. m < 10000000000 → digits m ≡ ds) (λ m h _. digits_small m h)
     (λ m ds h ih u. digits_large m h u ∙ rw (ih (omega arith)) refl) n (omega arith) (omega arith)
 
-pub two_digits : (n : ℕ) → 10 ≤ n → n < 100 → digits n ≡ (48 + n / 10) ∷ (48 + n % 10) ∷ []
-two_digits n h t = digits_large n h (omega arith) ∙ rw (digits_small (n / 10) (omega arith)) refl
+-- up to five digits, each of them by what it is
+module _ (n : ℕ) where
+  pub one_digit : {a : ℕ} → n < 10 → a ≡ 48 + n % 10 → digits n ≡ a ∷ []
+  unfolding low four
+  one_digit t ea = digits_low n (omega arith) ∙ simp (lead_none 10000 n (omega arith), lead_none 1000 n (omega arith), lead_none 100 n (omega arith), lead_none 10 n (omega arith), ea)
+
+  pub two_digits : {a b : ℕ} → 10 ≤ n → n < 100 → a ≡ 48 + n / 10 % 10 → b ≡ 48 + n % 10 → digits n ≡ a ∷ b ∷ []
+  unfolding low four
+  two_digits h t ea eb = digits_low n (omega arith) ∙ simp (lead_none 10000 n (omega arith), lead_none 1000 n (omega arith), lead_none 100 n (omega arith), lead_some 10 n h, ea, eb)
+
+  pub three_digits : {a b c : ℕ} → 100 ≤ n → n < 1000 → a ≡ 48 + n / 100 % 10 → b ≡ 48 + n / 10 % 10 → c ≡ 48 + n % 10 → digits n ≡ a ∷ b ∷ c ∷ []
+  unfolding low four
+  three_digits h t ea eb ec = digits_low n (omega arith) ∙ simp (lead_none 10000 n (omega arith), lead_none 1000 n (omega arith), lead_some 100 n h, lead_some 10 n (omega arith), ea, eb, ec)
+
+  pub four_digits : {a b c d : ℕ} → 1000 ≤ n → n < 10000 → a ≡ 48 + n / 1000 % 10 → b ≡ 48 + n / 100 % 10 → c ≡ 48 + n / 10 % 10 → d ≡ 48 + n % 10 → digits n ≡ a ∷ b ∷ c ∷ d ∷ []
+  unfolding low four
+  four_digits h t ea eb ec ed = digits_low n (omega arith) ∙ simp (lead_none 10000 n (omega arith), lead_some 1000 n h, lead_some 100 n (omega arith), lead_some 10 n (omega arith), ea, eb, ec, ed)
+
+  pub five_digits : {a b c d e : ℕ} → 10000 ≤ n → n < 100000 → a ≡ 48 + n / 10000 % 10 → b ≡ 48 + n / 1000 % 10 → c ≡ 48 + n / 100 % 10 → d ≡ 48 + n / 10 % 10 → e ≡ 48 + n % 10 → digits n ≡ a ∷ b ∷ c ∷ d ∷ e ∷ []
+  unfolding low four
+  five_digits h t ea eb ec ed ee = digits_low n (omega arith) ∙ simp (lead_some 10000 n h, lead_some 1000 n (omega arith), lead_some 100 n (omega arith), lead_some 10 n (omega arith), ea, eb, ec, ed, ee)
 
 -- what `write_digits` asks for and leaves, where the digits of n are k and m is n
 module _ (l : List ℕ) (at n m k : ℕ) (t : n < 2 ^ 32) (same : m ≡ n) (long : k ≡ length (digits n)) (inside : at + length (digits n) ≤ length l) where

@@ -1,5 +1,5 @@
 // Numbers written: any u32 in decimal.
-ghost use Rattle.std.specs.Prelude.{◌≡◌, ◌++◌, ◌+◌, ◌≤◌, leb, length};
+ghost use Rattle.std.specs.Prelude.{◌≡◌, ◌++◌, ◌+◌, ◌%◌, ◌≤◌, leb, length};
 ghost use Rattle.std.specs.List.{prefix_len};
 ghost use Rattle.spelling.specs.Numbers.{digits};
 ghost use Rattle.spelling.specs.Stored.{Stored};
@@ -25,18 +25,60 @@ fn powers_reached(n: u32) -> usize
     POWERS.iter().take_while(|power| **power <= n).count()
 }
 
-// Stores n from a place on, and answers the place behind it. It takes room and place, since a `Writer` that is handed to a function that is not
-// part of its caller lies in memory: an answer's line took 86 instructions so, and takes 66.
-fn store_digits(room: &mut [u8], at: usize, n: u32) -> usize
+// The last digit of a number, as a byte.
+pub(crate) fn last_digit(n: u32) -> u8
+    ensures { result ≡ 48 + n % 10 }
+{
+    b'0' + (n % 10) as u8
+}
+
+// Stores n from a place on, and answers the place behind it. It is a function of its own, for a line's number and most others of two digits or
+// more; it takes room and place, since a `Writer` that is handed to such a function lies in memory.
+pub(crate) fn store_digits(room: &mut [u8], at: usize, n: u32) -> usize
     requires { at + length (digits n) ≤ length room.old }
     ensures { Stored room.old at (digits n) result room.new }
 {
-    let end = at + number_length(n);
-    write_digits(u64::from(n), room, end);
-    end
+    let mut out = Writer { room, at };
+    out.store_each_digit(n);
+    out.at
 }
 
 impl Writer<'_> {
+    // Hardly a number has more than five digits. Up to five are stored each by itself: by `itoa` an answer's line takes up to a third more time.
+    #[inline(always)]
+    fn store_each_digit(&mut self, n: u32)
+        requires { Holds self.old (digits n) }
+        ensures { Writes self.old (digits n) self.new }
+    {
+        match n {
+            0..=9 => self.store_bytes(&[last_digit(n)]),
+            10..=99 => self.store_bytes(&[last_digit(n / 10), last_digit(n)]),
+            100..=999 => self.store_bytes(&[
+                last_digit(n / 100),
+                last_digit(n / 10),
+                last_digit(n),
+            ]),
+            1000..=9999 => self.store_bytes(&[
+                last_digit(n / 1000),
+                last_digit(n / 100),
+                last_digit(n / 10),
+                last_digit(n),
+            ]),
+            10000..=99999 => self.store_bytes(&[
+                last_digit(n / 10000),
+                last_digit(n / 1000),
+                last_digit(n / 100),
+                last_digit(n / 10),
+                last_digit(n),
+            ]),
+            _ => {
+                let end = self.at + number_length(n);
+                write_digits(u64::from(n), self.room, end);
+                self.at = end;
+            }
+        }
+    }
+
     // Most numbers of a text have one digit: that is stored without a call.
     #[inline(always)]
     pub(crate) fn store_number(&mut self, n: u32)
